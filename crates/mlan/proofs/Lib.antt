@@ -1,0 +1,2 @@
+pub mod Frames
+mod Grows

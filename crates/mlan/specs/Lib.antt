@@ -1,0 +1,6 @@
+pub mod Answers
+pub mod Checksum
+pub mod Draft
+pub mod Frame
+pub mod Numbers
+pub mod Rows

@@ -1,0 +1,5 @@
+// MLAN bursts: the checksum, the frame, and every reply and command as it is written.
+pub mod answer;
+pub mod checksum;
+mod draft;
+pub mod frame;

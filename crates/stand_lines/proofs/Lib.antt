@@ -1,0 +1,2 @@
+mod Bursts
+mod Spaces

@@ -1,0 +1,21 @@
+ghost use mathlib.Core.Path.{_≡_};
+ghost use Rattle.terms.specs.Addresses.{number, numbered, addressed};
+use super::super::Refusal;
+use super::Address;
+
+impl Address {
+    pub fn new(value: u8) -> Result<Address, Refusal>
+        ensures { λ r. ⌜ numbered r ≡ addressed value ⌝ }
+    {
+        if value < 1 || value > 254 {
+            return Err(Refusal::NoAddress);
+        }
+        Ok(Address { value })
+    }
+
+    pub fn get(self) -> u8
+        ensures { λ r. ⌜ r ≡ number self ⌝ }
+    {
+        self.value
+    }
+}

@@ -1,0 +1,172 @@
+// The small types that commands, replies and machines share, and the refusals.
+ghost use mathlib.Core.Path.{_≡_};
+ghost use Rattle.terms.specs.Fields.{system, units-code, units-of, function-code, function-of, function-limit, letters, tag-of, tag-limit};
+ghost use Rattle.terms.specs.Refusals.{number-of};
+
+pub mod address;
+
+// What a machine's load cells count: tenths of grams, or grams.
+#[derive(Clone, Copy)]
+pub enum Unit {
+    Tenths,
+    Grams,
+}
+
+impl Unit {
+    // The system byte of a reply. In the settings reply it tells the change mark too.
+    pub fn system(self, mark: bool) -> u8
+        ensures { λ r. ⌜ r ≡ system self mark ⌝ }
+    {
+        let plain = match self {
+            Unit::Tenths => 2,
+            Unit::Grams => 9,
+        };
+        if mark { plain + 1 } else { plain }
+    }
+}
+
+// The units in which a machine's display shows weights.
+#[derive(Clone, Copy)]
+pub enum WeightUnits {
+    Pounds,
+    Ounces,
+    WholeGrams,
+    Kilograms,
+}
+
+impl WeightUnits {
+    pub fn from_code(code: u8) -> Option<WeightUnits>
+        ensures { λ r. ⌜ r ≡ units-of code ⌝ }
+    {
+        match code {
+            0 => Some(WeightUnits::Pounds),
+            1 => Some(WeightUnits::Ounces),
+            2 => Some(WeightUnits::WholeGrams),
+            4 => Some(WeightUnits::Kilograms),
+            _ => None,
+        }
+    }
+
+    pub fn code(self) -> u8
+        ensures { λ r. ⌜ r ≡ units-code self ⌝ }
+    {
+        match self {
+            WeightUnits::Pounds => 0,
+            WeightUnits::Ounces => 1,
+            WeightUnits::WholeGrams => 2,
+            WeightUnits::Kilograms => 4,
+        }
+    }
+}
+
+// The two functions whose values can be set. Their codes are packed decimals:
+// a machine's keypad shows 82 as *52 and 130 as *82.
+#[derive(Clone, Copy)]
+pub enum Function {
+    F82,
+    F130,
+}
+
+impl Function {
+    pub fn from_code(code: u8) -> Option<Function>
+        ensures { λ r. ⌜ r ≡ function-of code ⌝ }
+    {
+        match code {
+            82 => Some(Function::F82),
+            130 => Some(Function::F130),
+            _ => None,
+        }
+    }
+
+    pub fn code(self) -> u8
+        ensures { λ r. ⌜ r ≡ function-code self ⌝ }
+    {
+        match self {
+            Function::F82 => 82,
+            Function::F130 => 130,
+        }
+    }
+
+    // The greatest value that the function takes.
+    pub fn limit(self) -> u8
+        ensures { λ r. ⌜ r ≡ function-limit self ⌝ }
+    {
+        match self {
+            Function::F82 => 1,
+            Function::F130 => 12,
+        }
+    }
+}
+
+// What a tag command sets.
+#[derive(Clone, Copy)]
+pub enum Tag {
+    Recipe,
+    WorkOrder,
+    Operator,
+}
+
+impl Tag {
+    pub fn from_letters(bytes: &[u8]) -> Option<Tag>
+        ensures { λ r. ⌜ r ≡ tag-of (now (bytes .entry)) ⌝ }
+    {
+        match bytes {
+            b"RC" => Some(Tag::Recipe),
+            b"WO" => Some(Tag::WorkOrder),
+            b"OP" => Some(Tag::Operator),
+            _ => None,
+        }
+    }
+
+    pub fn letters(self) -> [u8; 2]
+        ensures { λ r. ⌜ r ≡ letters self ⌝ }
+    {
+        match self {
+            Tag::Recipe => *b"RC",
+            Tag::WorkOrder => *b"WO",
+            Tag::Operator => *b"OP",
+        }
+    }
+
+    // The greatest value that the tag takes.
+    pub fn limit(self) -> u32
+        ensures { λ r. ⌜ r ≡ tag-limit self ⌝ }
+    {
+        match self {
+            Tag::Recipe => 65_535,
+            Tag::WorkOrder => 999_999,
+            Tag::Operator => 999,
+        }
+    }
+}
+
+// A row of a machine's settings: the type of its material and its setting.
+#[derive(Clone, Copy)]
+pub struct Row {
+    pub material: u8,
+    pub setting: u16,
+}
+
+// Why a call is refused that its caller could have made rightly.
+#[derive(Clone, Copy)]
+pub enum Refusal {
+    NoAddress,
+    BadData,
+    NoMachine,
+    WrongCount,
+    TooLarge,
+}
+
+impl Refusal {
+    pub fn number(self) -> u8
+        ensures { λ r. ⌜ r ≡ number-of self ⌝ }
+    {
+        match self {
+            Refusal::NoAddress => 2,
+            Refusal::BadData => 4,
+            Refusal::NoMachine => 8,
+            Refusal::WrongCount => 9,
+            Refusal::TooLarge => 10,
+        }
+    }
+}
