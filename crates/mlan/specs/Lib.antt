@@ -1,5 +1,6 @@
 pub mod Answers
 pub mod Checksum
+pub mod Commands
 pub mod Draft
 pub mod Frame
 pub mod Numbers

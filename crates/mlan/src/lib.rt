@@ -2,4 +2,5 @@
 pub mod answer;
 pub mod checksum;
 mod draft;
+pub mod fault;
 pub mod frame;

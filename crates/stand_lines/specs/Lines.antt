@@ -16,13 +16,15 @@ use Rattle.rack.specs.declared.KindName.the-variants.{Four, Twelve, Feeder}
 use Rattle.script.specs.Words.{words}
 use Rattle.script.specs.Numerals.{number-in, numbers-in}
 use Rattle.stand_lines.specs.declared.action.Action.{Action}
-use Rattle.stand_lines.specs.declared.action.Action.the-variants.{Nothing, Hang, Show, Unknown}
+use Rattle.stand_lines.specs.declared.action.Action.the-variants.{Nothing, Hang, Run, Show, Unknown}
 
 pub data Line : Type 0 where
   -- an empty line or a comment
   nothing : Line
   -- a machine to hang on the stand: address, kind and unit
   machine : ℕ → KindName → MassUnit → Line
+  -- a batch to run at an address: an amount for each component
+  batch : ℕ → List ℕ → Line
   -- a burst to show to the machine
   burst : List ℕ → Line
   unknown : Line
@@ -30,6 +32,7 @@ pub data Line : Type 0 where
 abbrev pub asking : Action → Line
 asking Nothing = nothing
 asking (Hang address kind unit) = machine address kind unit
+asking (Run address amounts) = batch address (vec-items amounts)
 asking (Show bytes) = burst (vec-items bytes)
 asking Unknown = unknown
 
@@ -57,6 +60,16 @@ machine-by (a ∷ k ∷ []) = unknown
 machine-by (a ∷ k ∷ u ∷ []) = machine-of (number-in 255 a) (kind-of k) (unit-of u)
 machine-by (a ∷ k ∷ u ∷ v ∷ ws) = unknown
 
+abbrev pub batch-of : Option ℕ → Option (List ℕ) → Line
+batch-of None amounts = unknown
+batch-of (Some address) None = unknown
+batch-of (Some address) (Some amounts) = batch address amounts
+
+-- an address, and any number of amounts
+abbrev pub batch-by : List (List ℕ) → Line
+batch-by [] = unknown
+batch-by (a ∷ ws) = batch-of (number-in 255 a) (numbers-in 4294967295 ws)
+
 abbrev pub burst-of : Option (List ℕ) → Line
 burst-of None = unknown
 burst-of (Some bytes) = cond (leb 1 (length bytes) && leb (length bytes) 64) (burst bytes) unknown
@@ -67,7 +80,7 @@ burst-by ws = burst-of (numbers-in 255 ws)
 
 abbrev pub by-words : List (List ℕ) → Line
 by-words [] = nothing
-by-words (w ∷ ws) = cond (sameBytes w (codes "machine")) (machine-by ws) (cond (sameBytes w (codes "burst")) (burst-by ws) unknown)
+by-words (w ∷ ws) = cond (sameBytes w (codes "machine")) (machine-by ws) (cond (sameBytes w (codes "batch")) (batch-by ws) (cond (sameBytes w (codes "burst")) (burst-by ws) unknown))
 
 abbrev is-comment : List ℕ → Bool
 is-comment [] = false

@@ -12,7 +12,7 @@ use Rattle.terms.specs.Refusals.{number-of}
 use Rattle.rack.specs.declared.KindName.{KindName}
 use Rattle.rack.specs.declared.KindName.the-variants.{Four, Twelve, Feeder}
 use Rattle.stand_lines.specs.declared.event.Event.{Event}
-use Rattle.stand_lines.specs.declared.event.Event.the-variants.{Hung, NotHung, Reply, NoReply, NotUnderstood}
+use Rattle.stand_lines.specs.declared.event.Event.the-variants.{Hung, NotHung, Accepted, Refused, Reply, NoReply, NotUnderstood}
 
 abbrev pub kind-text : KindName → List ℕ
 kind-text Four = codes "four"
@@ -31,6 +31,8 @@ spaced (b ∷ bs) = (32 ∷ decimal b) ++ spaced bs
 abbrev pub text-of : Event → List ℕ
 text-of (Hung address kind unit) = codes "machine " ++ (decimal address ++ (codes " " ++ (kind-text kind ++ (codes " " ++ unit-text unit))))
 text-of (NotHung refusal) = codes "machine: refused " ++ decimal (number-of refusal)
+text-of Accepted = codes "batch: accepted"
+text-of (Refused refusal) = codes "batch: refused " ++ decimal (number-of refusal)
 text-of (Reply bytes len) = codes "reply:" ++ spaced (take len bytes)
 text-of NoReply = codes "no reply"
 text-of (NotUnderstood line) = codes "line " ++ (decimal line ++ codes ": not understood")

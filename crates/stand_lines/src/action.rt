@@ -10,6 +10,10 @@ pub enum Action {
         kind: KindName,
         unit: Unit,
     },
+    Run {
+        address: u8,
+        amounts: Vec<u32>,
+    },
     Show {
         bytes: Vec<u8>,
     },

@@ -17,6 +17,8 @@ pub enum Event {
         unit: Unit,
     },
     NotHung(Refusal),
+    Accepted,
+    Refused(Refusal),
     Reply {
         bytes: [u8; 64],
         len: usize,
@@ -79,6 +81,11 @@ pub impl fmt::Display for Event as EventDisplay {
             Event::NotHung(refusal) => {
                 let number = refusal.number();
                 write!(f, "machine: refused {number}")
+            }
+            Event::Accepted => f.write_str("batch: accepted"),
+            Event::Refused(refusal) => {
+                let number = refusal.number();
+                write!(f, "batch: refused {number}")
             }
             Event::Reply { bytes, len } => {
                 f.write_str("reply:")?;

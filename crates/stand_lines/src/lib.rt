@@ -1,14 +1,18 @@
 // The test stand: reads a line of its script, plays it, and tells what came of it.
 ghost use mathlib.Core.Path.{_≡_};
 ghost use Rattle.std.specs.declared.option.Option.the-variants.{None};
+ghost use Rattle.std.specs.Options.{mapped};
 ghost use Rattle.std.specs.Results.{Cases};
+ghost use Rattle.blender.specs.Batches.{batched};
+ghost use Rattle.blender.specs.Machines.{after};
 ghost use Rattle.stand_lines.specs.Lines.{asked};
-ghost use Rattle.stand_lines.specs.Plays.{hung, after, shown-event, told};
+ghost use Rattle.stand_lines.specs.Plays.{hung, played, batch-event, shown-event, told};
 use action::Action;
 use event::Event;
 use rack::AnyMachine;
 use std::alloc::AllocError;
 use std::alloc::Global;
+use terms::Refusal;
 use terms::address::Address;
 
 mod action;
@@ -37,7 +41,7 @@ impl Stand {
         number: u64,
     ) -> Result<Option<Event>, AllocError>
         ensures { λ r. ⌜ Cases r
-            (λ e. (e ≡ told number (asked (now (line .entry))) (hung (now (self .entry)))) × (hung (now (self .exit)) ≡ after (asked (now (line .entry))) (hung (now (self .entry)))))
+            (λ e. (e ≡ told number (asked (now (line .entry))) (hung (now (self .entry)))) × (hung (now (self .exit)) ≡ played (asked (now (line .entry))) (hung (now (self .entry)))))
             (λ _. hung (now (self .exit)) ≡ hung (now (self .entry))) ⌝ }
     {
         match read::read(heap, line)? {
@@ -62,14 +66,32 @@ impl Stand {
                     Err(refusal) => Ok(Some(Event::NotHung(refusal))),
                 }
             }
+            Action::Run { address, amounts } => Ok(Some(self.run(address, &amounts))),
             Action::Show { bytes } => Ok(Some(self.show(&bytes))),
             Action::Unknown => Ok(Some(Event::NotUnderstood { line: number })),
         }
     }
 
+    fn run(&mut self, address: u8, amounts: &[u32]) -> Event
+        ensures event { λ r. ⌜ r ≡ batch-event address (now (amounts .entry)) (hung (now (self .entry))) ⌝ }
+        ensures stand { λ _. ⌜ hung (now (self .exit)) ≡ mapped (batched address (now (amounts .entry))) (hung (now (self .entry))) ⌝ }
+    {
+        let result = match &mut self.machine {
+            Some(machine) => machine.batch(address, amounts),
+            None => match Address::new(address) {
+                Ok(_) => Err(Refusal::NoMachine),
+                Err(refusal) => Err(refusal),
+            },
+        };
+        match result {
+            Ok(()) => Event::Accepted,
+            Err(refusal) => Event::Refused(refusal),
+        }
+    }
+
     fn show(&mut self, burst: &[u8]) -> Event
         ensures event { λ r. ⌜ r ≡ shown-event (now (burst .entry)) (hung (now (self .entry))) ⌝ }
-        ensures stand { λ _. ⌜ hung (now (self .exit)) ≡ hung (now (self .entry)) ⌝ }
+        ensures stand { λ _. ⌜ hung (now (self .exit)) ≡ mapped (λ m. after m (now (burst .entry))) (hung (now (self .entry))) ⌝ }
     {
         let Some(machine) = &mut self.machine else {
             return Event::NoReply;

@@ -3,12 +3,13 @@ ghost use mathlib.Core.Path.{_≡_};
 ghost use Rattle.std.specs.Vec.{made};
 ghost use Rattle.script.specs.Faults.{Listed};
 ghost use Rattle.script.specs.Words.{words};
-ghost use Rattle.stand_lines.specs.Lines.{unknown, asking, or-unknown, kind-of, unit-of, machine-by, burst-by, by-words, asked};
+ghost use Rattle.stand_lines.specs.Lines.{unknown, asking, or-unknown, kind-of, unit-of, machine-by, batch-by, burst-by, by-words, asked};
 use super::action::Action;
 use rack::KindName;
 use script::ByteNumeral;
 use script::LineFault;
 use script::Numeral;
+use script::WordNumeral;
 use script::numbers;
 use script::says;
 use script::split_word;
@@ -62,6 +63,20 @@ fn machine_words(rest: &[u8]) -> Option<Action>
     })
 }
 
+// An address, and any number of amounts.
+fn batch_words(heap: Global, rest: &[u8]) -> Result<Action, LineFault>
+    ensures { λ r. ⌜ Listed r (λ a. asking a ≡ batch-by (words (now (rest .entry)))) (batch-by (words (now (rest .entry))) ≡ unknown) ⌝ }
+{
+    let Some((first, rest)) = split_word(rest) else {
+        return Err(LineFault::NotUnderstood);
+    };
+    let Some(address) = u8::from_word(first) else {
+        return Err(LineFault::NotUnderstood);
+    };
+    let amounts = numbers::<u32>(heap, rest)?;
+    Ok(Action::Run { address, amounts })
+}
+
 // One to 64 bytes.
 fn burst_words(heap: Global, rest: &[u8]) -> Result<Action, LineFault>
     ensures { λ r. ⌜ Listed r (λ a. asking a ≡ burst-by (words (now (rest .entry)))) (burst-by (words (now (rest .entry))) ≡ unknown) ⌝ }
@@ -78,6 +93,8 @@ fn by_word(heap: Global, word: &[u8], rest: &[u8]) -> Result<Action, LineFault>
 {
     if says(word, "machine") {
         machine_words(rest).ok_or(LineFault::NotUnderstood)
+    } else if says(word, "batch") {
+        batch_words(heap, rest)
     } else if says(word, "burst") {
         burst_words(heap, rest)
     } else {

@@ -2,7 +2,7 @@
 use Prim.Native.Nat.{ℕ, _+_}
 use mathlib.Core.Bool.{Bool, true, false, cond, _&&_}
 use mathlib.Core.List.{List, [], _∷_}
-use lib.Dec.{eqb}
+use lib.Dec.{eqb, leb}
 use Rattle.std.specs.declared.option.Option.{Option}
 use Rattle.std.specs.declared.option.Option.the-variants.{Some, None}
 use Rattle.terms.specs.declared.Unit.{Unit as MassUnit}
@@ -42,10 +42,15 @@ function-limit F82 = 1
 function-limit F130 = 12
 
 -- the tag letters are exactly RC, WO or OP
-abbrev pub letters : Tag → List ℕ
-letters Recipe = 82 ∷ 67 ∷ []
-letters WorkOrder = 87 ∷ 79 ∷ []
-letters Operator = 79 ∷ 80 ∷ []
+abbrev pub tag-letters : Tag → List ℕ
+tag-letters (Recipe v) = 82 ∷ 67 ∷ []
+tag-letters (WorkOrder v) = 87 ∷ 79 ∷ []
+tag-letters (Operator v) = 79 ∷ 80 ∷ []
+
+abbrev pub tag-value : Tag → ℕ
+tag-value (Recipe v) = v
+tag-value (WorkOrder v) = v
+tag-value (Operator v) = v
 
 abbrev is-pair : ℕ → ℕ → List ℕ → Bool
 is-pair x y [] = false
@@ -53,11 +58,14 @@ is-pair x y (a ∷ []) = false
 is-pair x y (a ∷ b ∷ []) = eqb a x && eqb b y
 is-pair x y (a ∷ b ∷ c ∷ rest) = false
 
-abbrev pub tag-of : List ℕ → Option Tag
-tag-of bytes = cond (is-pair 82 67 bytes) (Some Recipe) (cond (is-pair 87 79 bytes) (Some WorkOrder) (cond (is-pair 79 80 bytes) (Some Operator) None))
+-- a recipe is 0 to 65,535, a work order 0 to 999,999, an operator 0 to 999
+abbrev pub letters-limit : List ℕ → Option ℕ
+letters-limit bytes = cond (is-pair 82 67 bytes) (Some 65535) (cond (is-pair 87 79 bytes) (Some 999999) (cond (is-pair 79 80 bytes) (Some 999) None))
 
--- the greatest recipe, work order and operator
-abbrev pub tag-limit : Tag → ℕ
-tag-limit Recipe = 65535
-tag-limit WorkOrder = 999999
-tag-limit Operator = 999
+abbrev within : ℕ → ℕ → Tag → Option Tag
+within limit n tag = cond (leb n limit) (Some tag) None
+
+-- the tag that letters name, if its value is in the range
+abbrev pub tag-of : List ℕ → ℕ → Option Tag
+tag-of bytes v =
+    cond (is-pair 82 67 bytes) (within 65535 v (Recipe v)) (cond (is-pair 87 79 bytes) (within 999999 v (WorkOrder v)) (cond (is-pair 79 80 bytes) (within 999 v (Operator v)) None))

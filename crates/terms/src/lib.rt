@@ -1,6 +1,6 @@
 // The small types that commands, replies and machines share, and the refusals.
 ghost use mathlib.Core.Path.{_≡_};
-ghost use Rattle.terms.specs.Fields.{system, units-code, units-of, function-code, function-of, function-limit, letters, tag-of, tag-limit};
+ghost use Rattle.terms.specs.Fields.{system, units-code, units-of, function-code, function-of, function-limit, letters-limit, tag-of, tag-letters, tag-value};
 ghost use Rattle.terms.specs.Refusals.{number-of};
 
 pub mod address;
@@ -98,44 +98,55 @@ impl Function {
     }
 }
 
-// What a tag command sets.
+// What a tag command sets, and its new value.
 #[derive(Clone, Copy)]
 pub enum Tag {
-    Recipe,
-    WorkOrder,
-    Operator,
+    Recipe(u16),
+    WorkOrder(u32),
+    Operator(u16),
 }
 
 impl Tag {
-    pub fn from_letters(bytes: &[u8]) -> Option<Tag>
-        ensures { λ r. ⌜ r ≡ tag-of (now (bytes .entry)) ⌝ }
+    // The greatest value behind two letters; none where they name no tag.
+    pub fn limit(letters: &[u8]) -> Option<u32>
+        ensures { λ r. ⌜ r ≡ letters-limit (now (letters .entry)) ⌝ }
     {
-        match bytes {
-            b"RC" => Some(Tag::Recipe),
-            b"WO" => Some(Tag::WorkOrder),
-            b"OP" => Some(Tag::Operator),
+        match letters {
+            b"RC" => Some(65_535),
+            b"WO" => Some(999_999),
+            b"OP" => Some(999),
+            _ => None,
+        }
+    }
+
+    // The tag that two letters name, with a value in its range.
+    pub fn new(letters: &[u8], value: u32) -> Option<Tag>
+        ensures { λ r. ⌜ r ≡ tag-of (now (letters .entry)) value ⌝ }
+    {
+        match letters {
+            b"RC" if value <= 65_535 => Some(Tag::Recipe(value as u16)),
+            b"WO" if value <= 999_999 => Some(Tag::WorkOrder(value)),
+            b"OP" if value <= 999 => Some(Tag::Operator(value as u16)),
             _ => None,
         }
     }
 
     pub fn letters(self) -> [u8; 2]
-        ensures { λ r. ⌜ r ≡ letters self ⌝ }
+        ensures { λ r. ⌜ r ≡ tag-letters self ⌝ }
     {
         match self {
-            Tag::Recipe => *b"RC",
-            Tag::WorkOrder => *b"WO",
-            Tag::Operator => *b"OP",
+            Tag::Recipe(_) => *b"RC",
+            Tag::WorkOrder(_) => *b"WO",
+            Tag::Operator(_) => *b"OP",
         }
     }
 
-    // The greatest value that the tag takes.
-    pub fn limit(self) -> u32
-        ensures { λ r. ⌜ r ≡ tag-limit self ⌝ }
+    pub fn value(self) -> u32
+        ensures { λ r. ⌜ r ≡ tag-value self ⌝ }
     {
         match self {
-            Tag::Recipe => 65_535,
-            Tag::WorkOrder => 999_999,
-            Tag::Operator => 999,
+            Tag::Recipe(value) | Tag::Operator(value) => u32::from(value),
+            Tag::WorkOrder(value) => value,
         }
     }
 }

@@ -1,0 +1,4 @@
+// Commands: reading a burst that travels down.
+pub mod command;
+mod read;
+pub mod rows;
