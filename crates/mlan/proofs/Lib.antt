@@ -1,2 +1,7 @@
 pub mod Frames
 mod Grows
+pub mod Numerals
+mod Ranges
+pub mod ReadBack
+pub mod Readings
+pub mod RowsBack

@@ -69,13 +69,14 @@ no-data said bytes = sized 0 bytes (reads said)
 abbrev pub front-piece : ℕ → List ℕ → Piece
 front-piece n bytes = record { at = 2; bytes = take n bytes }
 
+-- recipe, operator and work order stand behind the rows
+abbrev pub behind-rows : List ℕ → Reading
+behind-rows bytes =
+    field 40 (within 999 (two-at bytes 38)) λ operator.
+    field 42 (within 999999 (four-at bytes 40)) λ order. reads (set-settings (front-piece 36 bytes) (two-at bytes 36) operator order)
+
 abbrev pub as-settings : KindFacts → List ℕ → Reading
-as-settings k bytes =
-    sized 44 bytes
-    (sound-rows (rows-fault k (front-piece 36 bytes))
-    (field 40 (within 999 (two-at bytes 38)) λ operator.
-    field 42 (within 999999 (four-at bytes 40)) λ order.
-    reads (set-settings (front-piece 36 bytes) (two-at bytes 36) operator order)))
+as-settings k bytes = sized 44 bytes (sound-rows (rows-fault k (front-piece 36 bytes)) (behind-rows bytes))
 
 abbrev pub as-function : List ℕ → Reading
 as-function bytes =
@@ -96,12 +97,11 @@ as-tag bytes =
     sized 6 bytes
     (field 2 (letters-limit (take 2 bytes)) λ limit. field 4 (tag-of (take 2 bytes) (four-at bytes 2)) λ tag. reads (set-tag (front-piece 2 bytes) tag))
 
--- a command of a code with its data
-abbrev pub by-code : KindFacts → ℕ → List ℕ → Reading
-by-code k code bytes =
+-- the codes that say the same to every kind
+abbrev pub plain-code : ℕ → List ℕ → Reading
+plain-code code bytes =
     cond (eqb code 16) (no-data (get-totals true) bytes)
     (cond (eqb code 17) (no-data (get-totals false) bytes)
-    (cond (eqb code 19) (as-settings k bytes)
     (cond (eqb code 20) (no-data get-settings bytes)
     (cond (eqb code 49) (no-data get-type bytes)
     (cond (eqb code 70) (as-function bytes)
@@ -111,7 +111,11 @@ by-code k code bytes =
     (cond (eqb code 86) (as-units bytes)
     (cond (eqb code 88) (as-keypad bytes)
     (cond (eqb code 90) (as-tag bytes)
-    (faults Code))))))))))))
+    (faults Code)))))))))))
+
+-- a command of a code with its data; the rows of a settings command are the kind's
+abbrev pub by-code : KindFacts → ℕ → List ℕ → Reading
+by-code k code bytes = cond (eqb code 19) (as-settings k bytes) (plain-code code bytes)
 
 -- the test for every kind: the code, then the length, then the fields from first to last
 abbrev pub data-as : KindFacts → ℕ → List ℕ → Reading

@@ -4,4 +4,5 @@ pub mod Commands
 pub mod Draft
 pub mod Frame
 pub mod Numbers
+pub mod Requests
 pub mod Rows

@@ -4,3 +4,4 @@ pub mod checksum;
 mod draft;
 pub mod fault;
 pub mod frame;
+pub mod request;
