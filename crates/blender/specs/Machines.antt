@@ -13,11 +13,11 @@ use Rattle.terms.specs.declared.Tag.{Tag}
 use Rattle.terms.specs.declared.Tag.the-variants.{Recipe, WorkOrder, Operator}
 use Rattle.terms.specs.declared.Unit.{Unit as MassUnit}
 use Rattle.terms.specs.declared.WeightUnits.the-variants.{Pounds}
-use Rattle.mlan.specs.Answers.{answer-bytes}
+use Rattle.writing.specs.Answers.{answer-bytes}
 use Rattle.mlan.specs.Commands.{Said, get-totals, set-settings, get-settings, get-type, set-function, get-functions, get-version, get-units, set-units, set-keypad, set-tag, Reading, reads, faults, read-as}
 use Rattle.mlan.specs.Rows.{rows-in, zero-row}
-use Rattle.mlan.specs.declared.answer.Answer.{Answer}
-use Rattle.mlan.specs.declared.answer.Answer.the-variants.{Ack, Nak, Totals, Settings as SettingsAnswer, SystemType, Functions, Version, DisplayUnits}
+use Rattle.writing.specs.declared.answer.Answer.{Answer}
+use Rattle.writing.specs.declared.answer.Answer.the-variants.{Ack, Nak, Totals, Settings as SettingsAnswer, SystemType, Functions, Version, DisplayUnits}
 use Rattle.blender.specs.declared.machine.Machine.{Machine}
 use Rattle.blender.specs.declared.settings.Settings.{Settings}
 

@@ -8,9 +8,8 @@ ghost use Rattle.blender.specs.Batches.{turn-bits, filled, all-within, batch-a
 ghost use Rattle.blender.specs.Machines.{model, new-model, answer-of, stored, obeyed, concerns, reply, after, bytes-of};
 use super::settings::Settings;
 use commands::command::Command;
-use commands::rows::rows_in;
 use kinds::Kind;
-use mlan::answer::Answer;
+use rows::rows_in;
 use terms::Function;
 use terms::Refusal;
 use terms::Row;
@@ -18,6 +17,7 @@ use terms::Tag;
 use terms::Unit;
 use terms::WeightUnits;
 use terms::address::Address;
+use writing::answer::Answer;
 
 // A machine of a kind, at an address.
 #[derive(Drop)]

@@ -1,14 +1,9 @@
--- What a command that was read says, and the rows that it holds.
-use Prim.Native.Nat.{ℕ}
-use Rattle.std.specs.declared.option.Option.{Option}
-use Rattle.std.specs.declared.option.Option.the-variants.{Some, None}
-use Rattle.std.specs.Options.{mapped}
+-- What a command that was read says.
 use Rattle.std.specs.declared.result.Result.{Result}
 use Rattle.std.specs.declared.result.Result.the-variants.{Ok, Err}
 use Rattle.mlan.specs.Commands.{Said, get-totals, set-settings, get-settings, get-type, set-function, get-functions, get-version, get-units, set-units, set-keypad, set-tag, Reading, reads, faults}
-use Rattle.mlan.specs.Frame.{Piece, piece}
+use Rattle.mlan.specs.Frame.{piece}
 use Rattle.mlan.specs.declared.fault.CommandFault.{CommandFault}
-use Rattle.mlan.specs.declared.frame.Part.{Part}
 use Rattle.commands.specs.declared.command.Command.{Command}
 use Rattle.commands.specs.declared.command.Command.the-variants.{GetTotals, SetSettings, GetSettings, GetType, SetFunction, GetFunctions, GetVersion, GetUnits, SetUnits, SetKeypad, SetTag}
 
@@ -28,6 +23,3 @@ said (SetTag letters tag) = set-tag (piece letters) tag
 abbrev pub reading : Result Command CommandFault → Reading
 reading (Ok c) = reads (said c)
 reading (Err f) = faults f
-
-abbrev pub row-told : Option Part → Option Piece
-row-told o = mapped piece o

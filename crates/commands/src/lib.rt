@@ -1,4 +1,3 @@
 // Commands: reading a burst that travels down.
 pub mod command;
 mod read;
-pub mod rows;

@@ -1,7 +1,4 @@
-// MLAN bursts: the checksum, the frame, and every reply and command as it is written.
-pub mod answer;
+// MLAN bursts: the checksum, the frame, and the faults of a command.
 pub mod checksum;
-mod draft;
 pub mod fault;
 pub mod frame;
-pub mod request;

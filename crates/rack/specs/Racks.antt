@@ -3,8 +3,8 @@ use Rattle.kinds.specs.Kinds.{KindFacts, four-facts, twelve-facts, feeder-facts
 use Rattle.blender.specs.Machines.{Model, model}
 use Rattle.rack.specs.declared.AnyMachine.{AnyMachine}
 use Rattle.rack.specs.declared.AnyMachine.the-variants.{OfFour, OfTwelve, OfFeeder}
-use Rattle.rack.specs.declared.KindName.{KindName}
-use Rattle.rack.specs.declared.KindName.the-variants.{Four, Twelve, Feeder}
+use Rattle.terms.specs.declared.KindName.{KindName}
+use Rattle.terms.specs.declared.KindName.the-variants.{Four, Twelve, Feeder}
 
 abbrev pub facts-of : KindName → KindFacts
 facts-of Four = four-facts

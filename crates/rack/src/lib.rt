@@ -13,17 +13,10 @@ use kinds::Four;
 use kinds::FourKind;
 use kinds::Twelve;
 use kinds::TwelveKind;
+use terms::KindName;
 use terms::Refusal;
 use terms::Unit;
 use terms::address::Address;
-
-// A kind by its name.
-#[derive(Clone, Copy)]
-pub enum KindName {
-    Four,
-    Twelve,
-    Feeder,
-}
 
 #[derive(Drop)]
 pub enum AnyMachine {

@@ -5,6 +5,14 @@ ghost use Rattle.terms.specs.Refusals.{number-of};
 
 pub mod address;
 
+// A kind of machine, by its name.
+#[derive(Clone, Copy)]
+pub enum KindName {
+    Four,
+    Twelve,
+    Feeder,
+}
+
 // What a machine's load cells count: tenths of grams, or grams.
 #[derive(Clone, Copy)]
 pub enum Unit {

@@ -1,0 +1,6 @@
+use borrow.Author.Needs.{needs}
+use Rattle.std.proofs.shelf.Lists.{map-id}
+use Rattle.stand_script.proofs.read.burst_words.Needs as need
+
+pub returns : need.returns
+returns c = search (needs, map-id)

@@ -1,0 +1,4 @@
+mod Grows
+mod Ranges
+pub mod ReadBack
+pub mod RowsBack
