@@ -53,7 +53,7 @@ impl<K: Kind> Machine<K> {
             keypad: false,
         };
         Machine {
-            address: address.get(),
+            address: address.value,
             unit,
             totals: [0; 12],
             cycles: 0,

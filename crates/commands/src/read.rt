@@ -12,6 +12,7 @@ use mlan::frame::Part;
 use rows::rows_fault;
 use terms::Function;
 use terms::Tag;
+use terms::TagFault;
 use terms::WeightUnits;
 
 // The fault of data of a wrong length: the burst has three bytes more.
@@ -95,12 +96,10 @@ fn read_tag(bytes: &[u8]) -> Result<Command<'_>, CommandFault>
         at: 2,
         bytes: &bytes[0..2],
     };
-    if Tag::limit(letters.bytes).is_none() {
-        return Err(CommandFault::Field { at: 2 });
-    }
     match Tag::new(letters.bytes, u32::from_be_bytes([*a, *b, *c, *d])) {
-        Some(tag) => Ok(Command::SetTag { letters, tag }),
-        None => Err(CommandFault::Field { at: 4 }),
+        Ok(tag) => Ok(Command::SetTag { letters, tag }),
+        Err(TagFault::Letters) => Err(CommandFault::Field { at: 2 }),
+        Err(TagFault::Value) => Err(CommandFault::Field { at: 4 }),
     }
 }
 

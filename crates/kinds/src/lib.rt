@@ -1,7 +1,7 @@
 // The kinds of machine. A kind is a type without values of interest; what it
 // tells of itself never changes, so the machine above is written once for all.
 ghost use mathlib.Core.Path.{_≡_};
-ghost use Rattle.kinds.specs.Kinds.{KindFacts, four-facts, twelve-facts, feeder-facts};
+ghost use Rattle.kinds.specs.Kinds.{KindFacts, feeder-code, known-code, four-facts, twelve-facts, feeder-facts};
 
 // What a kind tells: each fact as an associated constant where it is one number,
 // and by a function whose contract says that it is the fact. Code that is
@@ -44,6 +44,20 @@ pub trait Kind {
         ensures { λ r. ⌜ r ≡ facts .takes code ⌝ };
 }
 
+// The codes of a feeder: totals, settings, type, version and units.
+fn is_of_feeder(code: u8) -> bool
+    ensures { λ r. ⌜ r ≡ feeder-code code ⌝ }
+{
+    matches!(code, 16 | 17 | 19 | 20 | 49 | 80 | 85)
+}
+
+// All twelve codes.
+fn is_known(code: u8) -> bool
+    ensures { λ r. ⌜ r ≡ known-code code ⌝ }
+{
+    is_of_feeder(code) || matches!(code, 70 | 71 | 86 | 88 | 90)
+}
+
 // A blender with four-component software.
 #[derive(Clone, Copy)]
 pub struct Four;
@@ -66,10 +80,9 @@ pub impl Kind for Four as FourKind {
     }
 
     fn place(component: usize) -> usize {
-        if component <= Self::COMPONENTS {
-            component
-        } else {
-            0
+        match component {
+            1..=4 => component,
+            _ => 0,
         }
     }
 
@@ -86,10 +99,7 @@ pub impl Kind for Four as FourKind {
     }
 
     fn takes(code: u8) -> bool {
-        matches!(
-            code,
-            16 | 17 | 19 | 20 | 49 | 70 | 71 | 80 | 85 | 86 | 88 | 90
-        )
+        is_known(code)
     }
 }
 
@@ -115,10 +125,9 @@ pub impl Kind for Twelve as TwelveKind {
     }
 
     fn place(component: usize) -> usize {
-        if component <= Self::COMPONENTS {
-            component
-        } else {
-            0
+        match component {
+            1..=12 => component,
+            _ => 0,
         }
     }
 
@@ -135,10 +144,7 @@ pub impl Kind for Twelve as TwelveKind {
     }
 
     fn takes(code: u8) -> bool {
-        matches!(
-            code,
-            16 | 17 | 19 | 20 | 49 | 70 | 71 | 80 | 85 | 86 | 88 | 90
-        )
+        is_known(code)
     }
 }
 
@@ -180,6 +186,6 @@ pub impl Kind for Feeder as FeederKind {
     }
 
     fn takes(code: u8) -> bool {
-        matches!(code, 16 | 17 | 19 | 20 | 49 | 80 | 85)
+        is_of_feeder(code)
     }
 }

@@ -6,10 +6,14 @@ use lib.Dec.{eqb, leb}
 use lib.ListN.{length, getD, take}
 use Rattle.std.specs.declared.option.Option.{Option}
 use Rattle.std.specs.declared.option.Option.the-variants.{Some, None}
+use Rattle.std.specs.declared.result.Result.{Result}
+use Rattle.std.specs.declared.result.Result.the-variants.{Ok, Err}
 use Rattle.kinds.specs.Kinds.{KindFacts}
-use Rattle.terms.specs.Fields.{units-of, function-of, function-limit, letters-limit, tag-of}
+use Rattle.terms.specs.Fields.{units-of, function-of, function-limit, tag-of}
 use Rattle.terms.specs.declared.Function.{Function}
 use Rattle.terms.specs.declared.Tag.{Tag}
+use Rattle.terms.specs.declared.TagFault.{TagFault}
+use Rattle.terms.specs.declared.TagFault.the-variants.{Letters, Value}
 use Rattle.terms.specs.declared.WeightUnits.{WeightUnits}
 use Rattle.mlan.specs.Checksum.{is-sound}
 use Rattle.mlan.specs.Frame.{Piece, code-of, data-of}
@@ -92,10 +96,14 @@ as-units bytes = sized 1 bytes (field 2 (units-of (getD bytes 0 0)) λ units. re
 abbrev pub as-keypad : List ℕ → Reading
 as-keypad bytes = sized 1 bytes (field 2 (flag-of (getD bytes 0 0)) λ flag. reads (set-keypad flag))
 
+-- letters that name no tag are at byte 2, a value out of its range at byte 4
+abbrev pub tag-reading : Piece → Result Tag TagFault → Reading
+tag-reading letters (Ok tag) = reads (set-tag letters tag)
+tag-reading letters (Err Letters) = faults (Field 2)
+tag-reading letters (Err Value) = faults (Field 4)
+
 abbrev pub as-tag : List ℕ → Reading
-as-tag bytes =
-    sized 6 bytes
-    (field 2 (letters-limit (take 2 bytes)) λ limit. field 4 (tag-of (take 2 bytes) (four-at bytes 2)) λ tag. reads (set-tag (front-piece 2 bytes) tag))
+as-tag bytes = sized 6 bytes (tag-reading (front-piece 2 bytes) (tag-of (take 2 bytes) (four-at bytes 2)))
 
 -- the codes that say the same to every kind
 abbrev pub plain-code : ℕ → List ℕ → Reading

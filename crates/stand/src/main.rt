@@ -1,7 +1,7 @@
 // Plays a trial: each line of standard input is asked of the stand, and what came
 // of it is printed at once.
 use stand_play::Stand;
-use stand_script::event::EventDisplay;
+use stand_text::EventDisplay;
 use std::error::AnyError;
 use std::io::BufRead;
 use std::io::BufReader;

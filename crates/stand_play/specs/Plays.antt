@@ -16,8 +16,8 @@ use Rattle.blender.specs.Batches.{batch-answer, batched}
 use Rattle.blender.specs.Machines.{Model, new-model, reply, after, bytes-of}
 use Rattle.rack.specs.Racks.{any-model, facts-of}
 use Rattle.stand_script.specs.Lines.{Line, nothing, machine, batch, burst, unknown}
-use Rattle.stand_script.specs.declared.event.Event.{Event}
-use Rattle.stand_script.specs.declared.event.Event.the-variants.{Hung, NotHung, Accepted, Refused, Reply, NoReply, NotUnderstood}
+use Rattle.stand_text.specs.declared.Event.{Event}
+use Rattle.stand_text.specs.declared.Event.the-variants.{Hung, NotHung, Accepted, Refused, Reply, NoReply, NotUnderstood}
 use Rattle.stand_play.specs.declared.Stand.{Stand}
 
 -- the machine on the stand

@@ -5,6 +5,8 @@ use mathlib.Core.List.{List, [], _∷_}
 use lib.Dec.{eqb, leb}
 use Rattle.std.specs.declared.option.Option.{Option}
 use Rattle.std.specs.declared.option.Option.the-variants.{Some, None}
+use Rattle.std.specs.declared.result.Result.{Result}
+use Rattle.std.specs.declared.result.Result.the-variants.{Ok, Err}
 use Rattle.terms.specs.declared.Unit.{Unit as MassUnit}
 use Rattle.terms.specs.declared.Unit.the-variants.{Tenths, Grams}
 use Rattle.terms.specs.declared.WeightUnits.{WeightUnits}
@@ -13,6 +15,8 @@ use Rattle.terms.specs.declared.Function.{Function}
 use Rattle.terms.specs.declared.Function.the-variants.{F82, F130}
 use Rattle.terms.specs.declared.Tag.{Tag}
 use Rattle.terms.specs.declared.Tag.the-variants.{Recipe, WorkOrder, Operator}
+use Rattle.terms.specs.declared.TagFault.{TagFault}
+use Rattle.terms.specs.declared.TagFault.the-variants.{Letters, Value}
 
 -- the system byte: 2 for tenths of grams, 9 for grams, one more while the change mark is up
 abbrev pub system : MassUnit → Bool → ℕ
@@ -58,14 +62,12 @@ is-pair x y (a ∷ []) = false
 is-pair x y (a ∷ b ∷ []) = eqb a x && eqb b y
 is-pair x y (a ∷ b ∷ c ∷ rest) = false
 
--- a recipe is 0 to 65,535, a work order 0 to 999,999, an operator 0 to 999
-abbrev pub letters-limit : List ℕ → Option ℕ
-letters-limit bytes = cond (is-pair 82 67 bytes) (Some 65535) (cond (is-pair 87 79 bytes) (Some 999999) (cond (is-pair 79 80 bytes) (Some 999) None))
+-- the tag that letters name: a recipe is 0 to 65,535, a work order 0 to 999,999, an operator 0 to 999
+abbrev in-limit : ℕ → ℕ → Tag → Result Tag TagFault
+in-limit limit n tag = cond (leb n limit) (Ok tag) (Err Value)
 
-abbrev within : ℕ → ℕ → Tag → Option Tag
-within limit n tag = cond (leb n limit) (Some tag) None
-
--- the tag that letters name, if its value is in the range
-abbrev pub tag-of : List ℕ → ℕ → Option Tag
+abbrev pub tag-of : List ℕ → ℕ → Result Tag TagFault
 tag-of bytes v =
-    cond (is-pair 82 67 bytes) (within 65535 v (Recipe v)) (cond (is-pair 87 79 bytes) (within 999999 v (WorkOrder v)) (cond (is-pair 79 80 bytes) (within 999 v (Operator v)) None))
+    cond (is-pair 82 67 bytes) (in-limit 65535 v (Recipe v))
+    (cond (is-pair 87 79 bytes) (in-limit 999999 v (WorkOrder v))
+    (cond (is-pair 79 80 bytes) (in-limit 999 v (Operator v)) (Err Letters)))

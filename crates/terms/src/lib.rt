@@ -1,7 +1,6 @@
 // The small types that commands, replies and machines share, and the refusals.
 ghost use mathlib.Core.Path.{_≡_};
-ghost use Rattle.terms.specs.Fields.{system, units-code, units-of, function-code, function-of, function-limit, letters-limit, tag-of, tag-letters, tag-value};
-ghost use Rattle.terms.specs.Refusals.{number-of};
+ghost use Rattle.terms.specs.Fields.{system, units-of, function-of, function-limit, tag-of, tag-letters, tag-value};
 
 pub mod address;
 
@@ -33,13 +32,13 @@ impl Unit {
     }
 }
 
-// The units in which a machine's display shows weights.
+// The units in which a machine's display shows weights, by their codes.
 #[derive(Clone, Copy)]
 pub enum WeightUnits {
-    Pounds,
-    Ounces,
-    WholeGrams,
-    Kilograms,
+    Pounds = 0,
+    Ounces = 1,
+    WholeGrams = 2,
+    Kilograms = 4,
 }
 
 impl WeightUnits {
@@ -54,25 +53,14 @@ impl WeightUnits {
             _ => None,
         }
     }
-
-    pub fn code(self) -> u8
-        ensures { λ r. ⌜ r ≡ units-code self ⌝ }
-    {
-        match self {
-            WeightUnits::Pounds => 0,
-            WeightUnits::Ounces => 1,
-            WeightUnits::WholeGrams => 2,
-            WeightUnits::Kilograms => 4,
-        }
-    }
 }
 
-// The two functions whose values can be set. Their codes are packed decimals:
+// The two functions whose values can be set, by their codes. Those are packed decimals:
 // a machine's keypad shows 82 as *52 and 130 as *82.
 #[derive(Clone, Copy)]
 pub enum Function {
-    F82,
-    F130,
+    F82 = 82,
+    F130 = 130,
 }
 
 impl Function {
@@ -83,15 +71,6 @@ impl Function {
             82 => Some(Function::F82),
             130 => Some(Function::F130),
             _ => None,
-        }
-    }
-
-    pub fn code(self) -> u8
-        ensures { λ r. ⌜ r ≡ function-code self ⌝ }
-    {
-        match self {
-            Function::F82 => 82,
-            Function::F130 => 130,
         }
     }
 
@@ -114,28 +93,24 @@ pub enum Tag {
     Operator(u16),
 }
 
-impl Tag {
-    // The greatest value behind two letters; none where they name no tag.
-    pub fn limit(letters: &[u8]) -> Option<u32>
-        ensures { λ r. ⌜ r ≡ letters-limit (now (letters .entry)) ⌝ }
-    {
-        match letters {
-            b"RC" => Some(65_535),
-            b"WO" => Some(999_999),
-            b"OP" => Some(999),
-            _ => None,
-        }
-    }
+// Why letters and a value make no tag: other letters, or a value above the tag's greatest.
+#[derive(Clone, Copy)]
+pub enum TagFault {
+    Letters,
+    Value,
+}
 
+impl Tag {
     // The tag that two letters name, with a value in its range.
-    pub fn new(letters: &[u8], value: u32) -> Option<Tag>
+    pub fn new(letters: &[u8], value: u32) -> Result<Tag, TagFault>
         ensures { λ r. ⌜ r ≡ tag-of (now (letters .entry)) value ⌝ }
     {
         match letters {
-            b"RC" if value <= 65_535 => Some(Tag::Recipe(value as u16)),
-            b"WO" if value <= 999_999 => Some(Tag::WorkOrder(value)),
-            b"OP" if value <= 999 => Some(Tag::Operator(value as u16)),
-            _ => None,
+            b"RC" if value <= 65_535 => Ok(Tag::Recipe(value as u16)),
+            b"WO" if value <= 999_999 => Ok(Tag::WorkOrder(value)),
+            b"OP" if value <= 999 => Ok(Tag::Operator(value as u16)),
+            b"RC" | b"WO" | b"OP" => Err(TagFault::Value),
+            _ => Err(TagFault::Letters),
         }
     }
 
@@ -166,26 +141,17 @@ pub struct Row {
     pub setting: u16,
 }
 
-// Why a call is refused that its caller could have made rightly.
+// Why a call is refused that its caller could have made rightly, by the refusal's number.
 #[derive(Clone, Copy)]
 pub enum Refusal {
-    NoAddress,
-    BadData,
-    NoMachine,
-    WrongCount,
-    TooLarge,
-}
-
-impl Refusal {
-    pub fn number(self) -> u8
-        ensures { λ r. ⌜ r ≡ number-of self ⌝ }
-    {
-        match self {
-            Refusal::NoAddress => 2,
-            Refusal::BadData => 4,
-            Refusal::NoMachine => 8,
-            Refusal::WrongCount => 9,
-            Refusal::TooLarge => 10,
-        }
-    }
+    // an address outside 1 to 254
+    NoAddress = 2,
+    // data out of its range
+    BadData = 4,
+    // no machine with that address
+    NoMachine = 8,
+    // not one amount for each component
+    WrongCount = 9,
+    // an amount above 1,000,000
+    TooLarge = 10,
 }

@@ -10,7 +10,8 @@ use Rattle.std.specs.shelf.Lists.{sum}
 use Rattle.std.proofs.shelf.Lists.{take-at, getD-append-right}
 use Rattle.std.proofs.shelf.Sums.{sumBy-append}
 use Rattle.std.proofs.shelf.Tests.{and-parts, and-from, leb-true, le-leb, eq-eqb, cond-true}
-use Rattle.std.specs.Options.{isSome}
+use Rattle.std.specs.Results.{isOk}
+use Rattle.std.specs.declared.result.Result.the-variants.{Ok, Err}
 use Rattle.std.specs.declared.option.Option.{Option}
 use Rattle.std.specs.declared.option.Option.the-variants.{Some, None}
 use Rattle.kinds.specs.Kinds.{KindFacts, twelve-facts}
@@ -19,9 +20,11 @@ use Rattle.terms.specs.declared.Function.the-variants.{F82, F130}
 use Rattle.terms.specs.declared.Row.{Row}
 use Rattle.terms.specs.declared.Tag.{Tag}
 use Rattle.terms.specs.declared.Tag.the-variants.{Recipe, WorkOrder, Operator}
+use Rattle.terms.specs.declared.TagFault.{TagFault}
+use Rattle.terms.specs.declared.TagFault.the-variants.{Letters, Value}
 use Rattle.terms.specs.declared.WeightUnits.the-variants.{Pounds, Ounces, WholeGrams, Kilograms}
 use Rattle.mlan.specs.Checksum.{checksum, sealed, is-sound}
-use Rattle.mlan.specs.Commands.{Said, set-settings, set-function, set-tag, Reading, reads, faults, sized, field, within, sound-rows, front-piece, behind-rows, as-settings, as-function, as-tag, by-code, data-as, read-as}
+use Rattle.mlan.specs.Commands.{Said, set-settings, set-function, set-tag, Reading, reads, faults, sized, field, within, sound-rows, front-piece, behind-rows, as-settings, as-function, tag-reading, as-tag, by-code, data-as, read-as}
 use Rattle.mlan.specs.Frame.{Piece, code-of, data-of}
 use Rattle.mlan.specs.Numbers.{two, four, two-at, four-at}
 use Rattle.writing.specs.Requests.{request-code, request-data, request-bytes, rows-in-range, tag-in-range, in-range, meant, Same-rows, Reads-back, Twelve-rows}
@@ -65,29 +68,24 @@ function-back F130 v e =
     ap (λ n. field 3 (within 12 n) (λ m. reads (set-function F130 m))) t ∙ passes 12 v (λ m. reads (set-function F130 m)) 3 h
 
 -- a tag is in range if its value is
-limited : {X : Type 0} (limit v : ℕ) (x : X) → isSome (cond (leb v limit) (Some x) None) ≡ true → v ≤ limit
-limited limit v x e = leb-true v limit (go (leb v limit) e)
+limited : (limit v : ℕ) (tag : Tag) → isOk {T = Tag} {E = TagFault} (cond (leb v limit) (Ok tag) (Err Value)) ≡ true → v ≤ limit
+limited limit v tag e = leb-true v limit (go (leb v limit) e)
   where
-    go : (b : Bool) → isSome (cond b (Some x) None) ≡ true → b ≡ true
+    go : (b : Bool) → isOk {T = Tag} {E = TagFault} (cond b (Ok tag) (Err Value)) ≡ true → b ≡ true
     go true e = refl
     go false e = e
 
+module _ (tag : ℕ → Tag) (letters : Piece) (limit v : ℕ) where
+  value-back : v < 4294967296 → v ≤ limit
+      → tag-reading letters (cond (leb (four-at (four v) 0) limit) (Ok (tag (four-at (four v) 0))) (Err Value)) ≡ reads (set-tag letters (tag v))
+  value-back small h =
+      ap (λ n. tag-reading letters (cond (leb n limit) (Ok (tag n)) (Err Value))) (four-back v small)
+      ∙ ap (λ b. tag-reading letters (cond b (Ok (tag v)) (Err Value))) (le-leb v limit h)
+
 tag-back : (t : Tag) → tag-in-range t ≡ true → as-tag (request-data (SetTag t)) ≡ reads (meant (SetTag t))
-tag-back (Recipe v) e =
-    let h = limited 65535 v (Recipe v) e in
-    let b = le-leb v 65535 h in
-    ap (λ n. field 4 (cond (leb n 65535) (Some (Recipe n)) None) (λ t. reads (set-tag (front-piece 2 (request-data (SetTag (Recipe v)))) t))) (four-back v (omega arith))
-    ∙ ap (λ b. field 4 (cond b (Some (Recipe v)) None) (λ t. reads (set-tag (front-piece 2 (request-data (SetTag (Recipe v)))) t))) b
-tag-back (WorkOrder v) e =
-    let h = limited 999999 v (WorkOrder v) e in
-    let b = le-leb v 999999 h in
-    ap (λ n. field 4 (cond (leb n 999999) (Some (WorkOrder n)) None) (λ t. reads (set-tag (front-piece 2 (request-data (SetTag (WorkOrder v)))) t))) (four-back v (omega arith))
-    ∙ ap (λ b. field 4 (cond b (Some (WorkOrder v)) None) (λ t. reads (set-tag (front-piece 2 (request-data (SetTag (WorkOrder v)))) t))) b
-tag-back (Operator v) e =
-    let h = limited 999 v (Operator v) e in
-    let b = le-leb v 999 h in
-    ap (λ n. field 4 (cond (leb n 999) (Some (Operator n)) None) (λ t. reads (set-tag (front-piece 2 (request-data (SetTag (Operator v)))) t))) (four-back v (omega arith))
-    ∙ ap (λ b. field 4 (cond b (Some (Operator v)) None) (λ t. reads (set-tag (front-piece 2 (request-data (SetTag (Operator v)))) t))) b
+tag-back (Recipe v) e = let h = limited 65535 v (Recipe v) e in value-back Recipe (record { at = 2; bytes = 82 ∷ 67 ∷ [] }) 65535 v (omega arith) h
+tag-back (WorkOrder v) e = let h = limited 999999 v (WorkOrder v) e in value-back WorkOrder (record { at = 2; bytes = 87 ∷ 79 ∷ [] }) 999999 v (omega arith) h
+tag-back (Operator v) e = let h = limited 999 v (Operator v) e in value-back Operator (record { at = 2; bytes = 79 ∷ 80 ∷ [] }) 999 v (omega arith) h
 
 -- the fields behind the rows of a settings command
 module _ (front tail : List ℕ) (rows-long : length front ≡ 36) where

@@ -5,7 +5,7 @@ use mathlib.Core.List.{List, [], _∷_, _++_}
 use mathlib.Core.Path.{_≡_}
 use lib.Dec.{leb}
 use lib.ListN.{length}
-use Rattle.std.specs.Options.{isSome}
+use Rattle.std.specs.Results.{isOk}
 use Rattle.kinds.specs.Kinds.{KindFacts, twelve-facts}
 use Rattle.terms.specs.Fields.{units-code, function-code, function-limit, tag-of, tag-letters, tag-value}
 use Rattle.terms.specs.declared.Row.{Row}
@@ -57,7 +57,7 @@ rows-in-range [] = true
 rows-in-range (r ∷ rs) = cond (row-in-range r) (rows-in-range rs) false
 
 abbrev pub tag-in-range : Tag → Bool
-tag-in-range tag = isSome (tag-of (tag-letters tag) (tag-value tag))
+tag-in-range tag = isOk (tag-of (tag-letters tag) (tag-value tag))
 
 abbrev pub in-range : Request → Bool
 in-range (GetTotals reset) = true

@@ -120,7 +120,7 @@ impl Answer {
                 draft.append(&[0; 16]);
             }
             Answer::Version { characters } => draft.append(characters),
-            Answer::DisplayUnits { units } => draft.append(&[units.code()]),
+            Answer::DisplayUnits { units } => draft.append(&[*units as u8]),
         }
     }
 }

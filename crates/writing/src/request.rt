@@ -68,7 +68,7 @@ fn rows_pass(rows: &[Row]) -> bool
 fn tag_passes(tag: Tag) -> bool
     ensures { λ r. ⌜ r ≡ tag-in-range tag ⌝ }
 {
-    Tag::new(&tag.letters(), tag.value()).is_some()
+    Tag::new(&tag.letters(), tag.value()).is_ok()
 }
 
 impl Request {
@@ -131,11 +131,11 @@ impl Request {
                 draft.append_u32(*order);
             }
             Request::SetFunction { function, value } => {
-                draft.append(&[function.code()]);
+                draft.append(&[*function as u8]);
                 draft.append_u16(u16::from(*value));
             }
             Request::GetFunctions => draft.append(&[0]),
-            Request::SetUnits { units } => draft.append(&[units.code()]),
+            Request::SetUnits { units } => draft.append(&[*units as u8]),
             Request::SetKeypad { flag } => draft.append(&[u8::from(*flag)]),
             Request::SetTag { tag } => {
                 draft.append(&tag.letters());

@@ -1,5 +1,5 @@
 ghost use mathlib.Core.Path.{_≡_};
-ghost use Rattle.terms.specs.Addresses.{number, numbered, addressed};
+ghost use Rattle.terms.specs.Addresses.{numbered, addressed};
 use super::super::Refusal;
 use super::Address;
 
@@ -11,11 +11,5 @@ impl Address {
             return Err(Refusal::NoAddress);
         }
         Ok(Address { value })
-    }
-
-    pub fn get(self) -> u8
-        ensures { λ r. ⌜ r ≡ number self ⌝ }
-    {
-        self.value
     }
 }

@@ -1,9 +1,9 @@
 use mathlib.Core.Path.{_≡_, refl, ap}
 use Rattle.std.proofs.Writes.{wrote-none, put-more, put-is}
 use Rattle.std.proofs.shelf.Lists.{take-all}
-use Rattle.stand_script.specs.Texts.{spaced}
-use Rattle.stand_script.proofs.Spaces.{spaced-more}
-use Rattle.stand_script.proofs.event.write_bytes.Needs as need
+use Rattle.stand_text.specs.Texts.{spaced}
+use Rattle.stand_text.proofs.Spaces.{spaced-more}
+use Rattle.stand_text.proofs.write_bytes.Needs as need
 
 pub loop-byte-holds : need.loop-byte-holds
 loop-byte-holds g c = λ p. record { wrote = wrote-none (g .W·Write .took) _; plain = p }

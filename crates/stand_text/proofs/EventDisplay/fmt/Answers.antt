@@ -4,8 +4,8 @@ use Prim.Native.Nat.{ℕ}
 use lib.Chars.{codes}
 use lib.ListN.{take}
 use Rattle.std.proofs.Writes.{put-more, put-is}
-use Rattle.stand_script.specs.Texts.{spaced, text-of}
-use Rattle.stand_script.proofs.event.EventDisplay.fmt.Needs as need
+use Rattle.stand_text.specs.Texts.{spaced, text-of}
+use Rattle.stand_text.proofs.EventDisplay.fmt.Needs as need
 
 pub returns-in-Continue-write-str : need.returns-in-Continue-write-str
 returns-in-Continue-write-str g c = λ plain ok.

@@ -5,7 +5,7 @@ use Prim.Native.Nat.{ℕ, _+_, _<_}
 use lib.ListN.{length, take, getD}
 use Rattle.std.specs.Written.{decimal}
 use Rattle.std.proofs.shelf.Lists.{take-more}
-use Rattle.stand_script.specs.Texts.{spaced}
+use Rattle.stand_text.specs.Texts.{spaced}
 
 spaced-++ : (xs ys : List ℕ) → spaced (xs ++ ys) ≡ spaced xs ++ spaced ys
 spaced-++ [] ys = refl

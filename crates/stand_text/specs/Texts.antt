@@ -11,8 +11,8 @@ use Rattle.terms.specs.declared.Unit.the-variants.{Tenths, Grams}
 use Rattle.terms.specs.Refusals.{number-of}
 use Rattle.terms.specs.declared.KindName.{KindName}
 use Rattle.terms.specs.declared.KindName.the-variants.{Four, Twelve, Feeder}
-use Rattle.stand_script.specs.declared.event.Event.{Event}
-use Rattle.stand_script.specs.declared.event.Event.the-variants.{Hung, NotHung, Accepted, Refused, Reply, NoReply, NotUnderstood}
+use Rattle.stand_text.specs.declared.Event.{Event}
+use Rattle.stand_text.specs.declared.Event.the-variants.{Hung, NotHung, Accepted, Refused, Reply, NoReply, NotUnderstood}
 
 abbrev pub kind-text : KindName → List ℕ
 kind-text Four = codes "four"

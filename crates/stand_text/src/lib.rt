@@ -1,8 +1,9 @@
+// What a test stand tells of a line of its script.
 ghost use mathlib.Core.Path.{_≡_};
 ghost use Rattle.std.specs.declared.option.Option.the-variants.{Some};
 ghost use Rattle.std.specs.Written.{Prints};
 ghost use lib.ListN.{take};
-ghost use Rattle.stand_script.specs.Texts.{spaced, text-of, kind-text, unit-text};
+ghost use Rattle.stand_text.specs.Texts.{spaced, text-of, kind-text, unit-text};
 use std::fmt;
 use terms::KindName;
 use terms::Refusal;
@@ -79,12 +80,12 @@ pub impl fmt::Display for Event as EventDisplay {
                 write!(f, "machine {address} {kind} {unit}")
             }
             Event::NotHung(refusal) => {
-                let number = refusal.number();
+                let number = *refusal as u8;
                 write!(f, "machine: refused {number}")
             }
             Event::Accepted => f.write_str("batch: accepted"),
             Event::Refused(refusal) => {
-                let number = refusal.number();
+                let number = *refusal as u8;
                 write!(f, "batch: refused {number}")
             }
             Event::Reply { bytes, len } => {
