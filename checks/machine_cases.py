@@ -1,7 +1,7 @@
 #!/usr/bin/env python3
 """The machine's test cases, worked out from the layouts and rules of docs/PROTOCOL.md.
 
-    python3 checks/machine_cases.py            writes crates/cases/stdin and crates/cases/stdout
+    python3 checks/machine_cases.py            writes crates/cases/stdin, crates/cases/stdout and crates/stand/stdout
     python3 checks/machine_cases.py --check    says whether they are what it would write
 
 This is a second, independent account of the machine: it shares no code with the crates, and what
@@ -272,18 +272,51 @@ def build():
     return '\n'.join(s.asked) + '\n', '\n'.join(s.told) + '\n'
 
 
+def number(word, limit):
+    return int(word) if word.isascii() and word.isdigit() and int(word) <= limit else None
+
+
+def stand(text):
+    """What the stand prints of a script: one line for each that is neither empty nor a comment."""
+    machine, told = None, []
+    for count, line in enumerate(text.split('\n')[:-1], 1):
+        words = line.split()
+        if line.startswith('#') or not words:
+            continue
+        answer = f'line {count}: not understood'
+        if words[0] == 'machine' and len(words) == 4 and machine is None:
+            address = number(words[1], 255)
+            if address is not None and words[2] in KINDS and words[3] in ('tenths', 'grams'):
+                if 1 <= address <= 254:
+                    machine, answer = Machine(address, *words[2:]), ' '.join(words)
+                else:
+                    answer = 'machine: refused 2'
+        elif words[0] == 'batch' and len(words) > 1:
+            address, amounts = number(words[1], 255), [number(word, 2 ** 32 - 1) for word in words[2:]]
+            if None not in [address] + amounts:
+                absent = 8 if 1 <= address <= 254 else 2
+                refused = machine.batch(address, amounts) if machine else absent
+                answer = f'batch: refused {refused}' if refused else 'batch: accepted'
+        elif words[0] == 'burst' and 1 <= len(words) - 1 <= 64:
+            burst = [number(word, 255) for word in words[1:]]
+            if None not in burst:
+                reply = machine.answer(burst) if machine else None
+                answer = 'reply: ' + ' '.join(map(str, reply)) if reply else 'no reply'
+        told.append(answer)
+    return '\n'.join(told) + '\n'
+
+
 def main():
-    top = os.path.join(os.path.dirname(os.path.abspath(__file__)), '..', 'crates', 'cases')
-    same = True
-    for name, text in zip(('stdin', 'stdout'), build()):
-        path = os.path.join(top, name)
-        if '--check' in sys.argv:
-            same = same and open(path).read() == text
-        else:
-            open(path, 'w').write(text)
+    crates = os.path.join(os.path.dirname(os.path.abspath(__file__)), '..', 'crates')
+    asked, told = build()
+    sample = open(os.path.join(crates, 'stand', 'stdin')).read()
+    files = {'cases/stdin': asked, 'cases/stdout': told, 'stand/stdout': stand(sample)}
     if '--check' in sys.argv:
-        print('the cases are as this script works them out' if same else 'the cases differ from what this script works out')
-        sys.exit(0 if same else 1)
+        wrong = [name for name, text in files.items() if open(os.path.join(crates, name)).read() != text]
+        print('differs: ' + ', '.join(wrong) if wrong else 'the cases are as this script works them out')
+        sys.exit(1 if wrong else 0)
+    for name, text in files.items():
+        open(os.path.join(crates, name), 'w').write(text)
 
 
 main()
