@@ -1,3 +1,5 @@
 // A blender or feeder: what a machine of any kind answers, and how its totals grow.
+#![tactic(auto)]
+
 pub mod machine;
 pub mod settings;

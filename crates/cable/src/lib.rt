@@ -1,4 +1,6 @@
 // Lines: what carries bursts between a station and the machines on its cable.
+#![tactic(auto)]
+
 pub mod buffer;
 pub mod burst;
 pub mod carrier;

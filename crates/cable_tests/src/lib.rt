@@ -1,4 +1,6 @@
 // Machines on a cable, lines and serving, by examples worked out by hand.
+#![tactic(auto)]
+
 #[cfg(test)]
 mod tests {
     use blender::machine::Machine;

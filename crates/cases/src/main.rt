@@ -1,4 +1,6 @@
 // Plays the machine's test cases: a stand's script in which each `machine` line begins anew.
+#![tactic(auto)]
+
 use stand_play::Stand;
 use std::io::{BufRead, BufReader};
 

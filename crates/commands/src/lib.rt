@@ -1,3 +1,5 @@
 // Commands: reading a burst that travels down.
+#![tactic(auto)]
+
 pub mod command;
 mod read;

@@ -1,5 +1,7 @@
 // The faults of a hearing, in three layers: of the burst, of the message in it, and of the
 // account that it is for. Each holds the one below.
+#![tactic(auto)]
+
 ghost use Rattle.std.specs.Prelude.{◌≡◌};
 ghost use Rattle.faults.specs.Faults.{fault_number, fault_byte};
 ghost use Rattle.faults.specs.declared.AccountFault.TheVariants.{Message};

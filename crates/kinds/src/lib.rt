@@ -1,5 +1,7 @@
 // The kinds of machine. A kind is a type without values of interest; what it
 // tells of itself never changes, so the machine above is written once for all.
+#![tactic(auto)]
+
 ghost use Rattle.std.specs.Prelude.{◌≡◌};
 ghost use Rattle.kinds.specs.Kinds.{KindFacts, feeder_code, known_code, four_facts, twelve_facts, feeder_facts};
 

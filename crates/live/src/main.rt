@@ -1,5 +1,7 @@
 // The machine end on a real cable: each read from standard input is a burst that arrived
 // together, and its reply goes to standard output at once.
+#![tactic(auto)]
+
 use anyhow::anyhow;
 use live_cable::arguments::named;
 use live_cable::cable::LiveCable;

@@ -1,4 +1,6 @@
 // Totals and cycle counts that pass their ends, which takes thousands of batches.
+#![tactic(auto)]
+
 #[cfg(test)]
 mod tests {
     use blender::machine::Machine;

@@ -1,4 +1,6 @@
 // MLAN bursts: the checksum, the frame, and the faults of a command.
+#![tactic(auto)]
+
 pub mod checksum;
 pub mod fault;
 pub mod frame;

@@ -1,4 +1,6 @@
 // Machines whose kind is chosen while a program runs.
+#![tactic(auto)]
+
 ghost use Rattle.std.specs.Prelude.{◌≡◌, [], ◌∷◌, length};
 ghost use Rattle.terms.specs.Addresses.{number};
 ghost use Rattle.mlan.specs.Checksum.{padded};

@@ -1,4 +1,6 @@
 // The twelve rows of a settings command or reply, as parts of its burst.
+#![tactic(auto)]
+
 ghost use Rattle.std.specs.Prelude.{◌≡◌, ◌≤◌, IfSome};
 ghost use Rattle.mlan.specs.Frame.{piece};
 ghost use Rattle.mlan.specs.Rows.{is_whole, row_found, greatest_type, greatest_setting, row_fault, rows_fault, row_of, rows_in};

@@ -1,5 +1,7 @@
 // The machine end's one call: a burst that travels down is shown to a drop, and the reply
 // goes up.
+#![tactic(auto)]
+
 ghost use Rattle.std.specs.Prelude.{◌≡◌, ℕ, ◌<◌, ◌≤◌, List, length, Option, MatchResult};
 ghost use Rattle.std.specs.Option.{option_map};
 ghost use Rattle.terms.specs.declared.Refusal.TheVariants.{ShortBuffer};

@@ -1,5 +1,7 @@
 // Plays a trial: each line of standard input is asked of the stand, and what came
 // of it is printed at once.
+#![tactic(auto)]
+
 use stand_play::Stand;
 use std::io::{BufRead, BufReader};
 

@@ -1,4 +1,6 @@
 // The test stand: plays the lines of its script.
+#![tactic(auto)]
+
 ghost use Rattle.std.specs.Prelude.{◌≡◌, None, MatchResult};
 ghost use Rattle.std.specs.Option.{option_map};
 ghost use Rattle.blender.specs.Batches.{batched};

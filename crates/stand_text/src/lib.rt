@@ -1,4 +1,6 @@
 // What a test stand tells of a line of its script.
+#![tactic(auto)]
+
 ghost use Rattle.std.specs.Prelude.{◌≡◌, take, Some};
 ghost use Rattle.std.specs.Fmt.{WritesOnOk};
 ghost use Rattle.stand_text.specs.Texts.{spaced, text_of, kind_text, unit_text};

@@ -1,4 +1,6 @@
 // The small types that commands, replies and machines share, and the refusals.
+#![tactic(auto)]
+
 ghost use Rattle.std.specs.Prelude.{◌≡◌};
 ghost use Rattle.terms.specs.Refusals.{number_of};
 ghost use Rattle.terms.specs.Fields.{system, units_of, function_of, function_limit, tag_of, tag_letters, tag_value};

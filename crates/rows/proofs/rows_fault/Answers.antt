@@ -21,7 +21,7 @@ pub loop-row-preserved : goal.loop-row-preserved
 loop-row-preserved g c =
     let rows = piece c.args.rows in
     let p = c.loop-row.row in
-    let here = ap (found_fault g.K.Kind.facts p rows) (sym c.in-Some.ensures.part) ∙ sym c.in-default-row-fault.ensures in
+    let here = ap (found_fault g.K.Kind.facts p rows) (sym c.in-Some.ensures.part) ∙ sym c.in_default-row_fault.ensures in
     c.loop-row.invariant ∙ no_fault_here g.K.Kind.facts rows p c.loop-row-test.true here
 
 pub returns : goal.returns

@@ -8,7 +8,7 @@ pub loop-i-init : goal.loop-i-init
 loop-i-init c = (refl, λ k h. absurd (omega arith))
 
 pub loop-i-preserved : goal.loop-i-preserved
-loop-i-preserved c = filled_more (row_at (piece c.args.rows)) zero_row c.loop-i.all c.loop-i.i c.row-of.result c.loop-i-test.true (c.row-of.ensures ∙ ap row_of c.row-part.ensures.part) c.loop-i.invariant
+loop-i-preserved c = filled_more (row_at (piece c.args.rows)) zero_row c.loop-i.all c.loop-i.i c.row_of.result c.loop-i-test.true (c.row_of.ensures ∙ ap row_of c.row_part.ensures.part) c.loop-i.invariant
 
 pub returns : goal.returns
 unfolding rows_in

@@ -11,10 +11,10 @@ returns-then-blank-of-blanks c =
 
 pub loop-i-preserved : goal.loop-i-preserved
 loop-i-preserved c =
-    let more = run_more c.args.of-blanks c.args.line.now c.loop-i.i c.loop-i-test.true (sym (ap (λ b. beq b c.args.of-blanks) c.blank.ensures) ∙ not-false _ c.if-blank-of-blanks.false) in
+    let more = run_more c.args.of_blanks c.args.line.now c.loop-i.i c.loop-i-test.true (sym (ap (λ b. beq b c.args.of_blanks) c.blank.ensures) ∙ not-false _ c.if-blank-of_blanks.false) in
     omega (arith, c.loop-i.invariant, more)
 
 pub returns : goal.returns
 returns c =
-    let all = run_end c.args.of-blanks c.args.line.now c.loop-i.i c.loop-i-test.false in
+    let all = run_end c.args.of_blanks c.args.line.now c.loop-i.i c.loop-i-test.false in
     record { count = omega (arith, c.loop-i.invariant, all); within = omega arith }

@@ -4,5 +4,5 @@ use Rattle.script.proofs.numbers.Goals as goal
 
 pub loop-word-preserved : goal.loop-word-preserved
 loop-word-preserved g c =
-    listed_more g.T.Numeral.value g.T.Numeral.limit (vec_items c.loop-word.all) (vec_items c.push.new.self) c.in-Some-from-word.n _ _ _ _
-    c.in-ok-push.ensures.items c.in-Some.ensures.words c.in-Some-from-word.ensures c.loop-word.invariant
+    listed_more g.T.Numeral.value g.T.Numeral.limit (vec_items c.loop-word.all) (vec_items c.push.new.self) c.in-Some-from_word.n _ _ _ _
+    c.in_ok-push.ensures.items c.in-Some.ensures.words c.in-Some-from_word.ensures c.loop-word.invariant

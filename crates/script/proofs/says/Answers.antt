@@ -5,4 +5,4 @@ use Rattle.std.specs.Str.{bytes_eq}
 use Rattle.script.proofs.says.Goals as goal
 
 pub returns : goal.returns
-returns c = same_from_decides _ _ (slice_eq-Decides Decides-eqb _ _ _ c.eq.ensures) (bytes_eq-Decides _ _) ∙ ap (bytes_eq c.args.word.now) c.as-bytes.ensures.value
+returns c = same_from_decides _ _ (slice_eq-Decides Decides-eqb _ _ _ c.eq.ensures) (bytes_eq-Decides _ _) ∙ ap (bytes_eq c.args.word.now) c.as_bytes.ensures.value

@@ -8,7 +8,7 @@ pub returns-then-not-row-passes : goal.returns-then-not-row-passes
 returns-then-not-row-passes c = sym (c.loop-row.invariant ∙ row_out c.args.rows.now c.loop-row.row-index _ c.loop-row-test.true (sym c.if-not-row-passes.ensures))
 
 pub loop-row-preserved : goal.loop-row-preserved
-loop-row-preserved c = c.loop-row.invariant ∙ row_in c.args.rows.now c.loop-row.row-index _ c.loop-row-test.true (sym c.if-not-row-passes.ensures)
+loop-row-preserved c = c.loop-row.invariant ∙ row_in c.args.rows.now c.loop-row.row-index _ c.loop-row-test.true (sym c.if-not-row_passes.ensures)
 
 pub returns : goal.returns
 returns c = sym (c.loop-row.invariant ∙ at_drop_all rows_in_range c.args.rows.now c.loop-row.row-index c.loop-row-test.false)
