@@ -4,17 +4,17 @@ use Rattle.mlan.specs.Rows.{found_fault}
 use Rattle.rows.proofs.EachRow.{fault_here, no_fault_here, no_row_left}
 use Rattle.rows.proofs.rows_fault.Goals as goal
 
-pub returns-in-default : goal.returns-in-default
-returns-in-default g c =
+pub returns-in_default : goal.returns-in_default
+returns-in_default g c =
     let rows = piece c.args.rows in
     let p = c.loop-row.row in
-    sym (c.loop-row.invariant ∙ fault_here g.K.Kind.facts rows p c.loop-row-test.true _ (ap (found_fault g.K.Kind.facts p rows) (sym c.in-default.ensures.part)))
+    sym (c.loop-row.invariant ∙ fault_here g.K.Kind.facts rows p c.loop-row-test.true _ (ap (found_fault g.K.Kind.facts p rows) (sym c.in_default.ensures.part)))
 
-pub returns-in-Some-row-fault : goal.returns-in-Some-row-fault
-returns-in-Some-row-fault g c =
+pub returns-in-Some-row_fault : goal.returns-in-Some-row_fault
+returns-in-Some-row_fault g c =
     let rows = piece c.args.rows in
     let p = c.loop-row.row in
-    let here = ap (found_fault g.K.Kind.facts p rows) (sym c.in-Some.ensures.part) ∙ sym c.in-Some-row-fault.ensures in
+    let here = ap (found_fault g.K.Kind.facts p rows) (sym c.in-Some.ensures.part) ∙ sym c.in-Some-row_fault.ensures in
     sym (c.loop-row.invariant ∙ fault_here g.K.Kind.facts rows p c.loop-row-test.true _ here)
 
 pub loop-row-preserved : goal.loop-row-preserved

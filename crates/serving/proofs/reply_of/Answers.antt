@@ -7,8 +7,8 @@ pub returns-in-Reply : goal.returns-in-Reply
 returns-in-Reply g c =
     let ms = g.D.Segment.machines c.args.machines.now in
     let s = c.in-Reply.ensures in
-    let bytes = c.as-slice.ensures.bytes in
+    let bytes = c.as_slice.ensures.bytes in
     record {
-      reply = kept_reply c.new.result c.as-slice.result.now ms c.in-Reply.len c.show.new.out (omega arith) s.fits.0 s.fits.1 c.new.ensures s.said s.out ∙ ap (λ (b : List ℕ). drop_reply b ms) bytes;
+      reply = kept_reply c.new.result c.as_slice.result.now ms c.in-Reply.len c.show.new.out (omega arith) s.fits.0 s.fits.1 c.new.ensures s.said s.out ∙ ap (λ (b : List ℕ). drop_reply b ms) bytes;
       machines = s.machines ∙ ap (λ (b : List ℕ). shown b ms) bytes;
     }

@@ -8,39 +8,39 @@ use Rattle.live_cable.specs.declared.fault.ArgumentFault.{ArgumentFault}
 use Rattle.live_cable.proofs.Naming.{at_each, no_plate, one_plate, is_wrong, not_hung}
 use Rattle.live_cable.proofs.arguments.named.Goals as goal
 
-pub returns-in-err-amount : goal.returns-in-err-amount
-returns-in-err-amount c =
+pub returns-in_err-amount : goal.returns-in_err-amount
+returns-in_err-amount c =
     let ms = racked c.loop-word.machines in
-    let p = err_from_is_err_and c.from-residual.result c.from-residual.ensures.1 in
-    let all = sym c.loop-word.invariant ∙ ap (named_from ms) c.in-Some.ensures.words ∙ at_each ms _ _ (sym c.if-says.ensures) ∙ ap (with_each ms) (sym c.in-err-amount.ensures) in
+    let p = err_from_is_err_and c.from_residual.result c.from_residual.ensures.1 in
+    let all = sym c.loop-word.invariant ∙ ap (named_from ms) c.in-Some.ensures.words ∙ at_each ms _ _ (sym c.if-says.ensures) ∙ ap (with_each ms) (sym c.in_err-amount.ensures) in
     rw (p.1, p.2) (is_wrong _ _ all)
 
 pub returns-then-says : goal.returns-then-says
 returns-then-says c =
     let ms = racked c.loop-word.machines in
-    let all = sym c.loop-word.invariant ∙ ap (named_from ms) c.in-Some.ensures.words ∙ at_each ms _ _ (sym c.if-says.ensures) ∙ ap (with_each ms) (sym c.in-ok-amount.ensures) in
+    let all = sym c.loop-word.invariant ∙ ap (named_from ms) c.in-Some.ensures.words ∙ at_each ms _ _ (sym c.if-says.ensures) ∙ ap (with_each ms) (sym c.in_ok-amount.ensures) in
     subst (λ (n : Names). Named c.finished.result n) (sym all) c.finished.ensures
 
-pub returns-in-default-read : goal.returns-in-default-read
-returns-in-default-read c =
-    sym c.loop-word.invariant ∙ no_plate (racked c.loop-word.machines) _ _ _ c.in-Some.ensures.words (sym c.if-says.ensures) c.in-default-read.ensures.plate
+pub returns-in_default-read : goal.returns-in_default-read
+returns-in_default-read c =
+    sym c.loop-word.invariant ∙ no_plate (racked c.loop-word.machines) _ _ _ c.in-Some.ensures.words (sym c.if-says.ensures) c.in_default-read.ensures.plate
 
-pub returns-in-err-hang : goal.returns-in-err-hang
-returns-in-err-hang c =
+pub returns-in_err-hang : goal.returns-in_err-hang
+returns-in_err-hang c =
     let ms = racked c.loop-word.machines in
-    let p = err_from_is_err_and c.from-residual-in-err-hang.result c.from-residual-in-err-hang.ensures.1 in
+    let p = err_from_is_err_and c.from_residual-in_err-hang.result c.from_residual-in_err-hang.ensures.1 in
     let all = sym c.loop-word.invariant ∙ one_plate ms _ _ _ _ _ c.in-Some.ensures.words (sym c.if-says.ensures) c.in-Some-read.ensures.plate in
-    rw (p.1, p.2) (not_hung _ _ _ _ c.in-err-hang.ensures all)
+    rw (p.1, p.2) (not_hung _ _ _ _ c.in_err-hang.ensures all)
 
 pub loop-word-preserved : goal.loop-word-preserved
 loop-word-preserved c =
     let ms = racked c.loop-word.machines in
     let go : List Model → Names = λ more. named_from more (words c.in-Some-read.behind.now) in
-    sym (ap (λ r. next r go) c.in-ok-hang.ensures) ∙ sym (one_plate ms _ _ _ _ _ c.in-Some.ensures.words (sym c.if-says.ensures) c.in-Some-read.ensures.plate) ∙ c.loop-word.invariant
+    sym (ap (λ r. next r go) c.in_ok-hang.ensures) ∙ sym (one_plate ms _ _ _ _ _ c.in-Some.ensures.words (sym c.if-says.ensures) c.in-Some-read.ensures.plate) ∙ c.loop-word.invariant
 
 pub returns : goal.returns
 unfolding named_from
 returns c =
     let ms = racked c.loop-word.machines in
-    let all = sym c.loop-word.invariant ∙ ap (named_from ms) c.in-default.ensures.words in
+    let all = sym c.loop-word.invariant ∙ ap (named_from ms) c.in_default.ensures.words in
     subst (λ (n : Names). Named c.finished-2.result n) (sym all) c.finished-2.ensures

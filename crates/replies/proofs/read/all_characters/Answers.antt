@@ -7,13 +7,13 @@ pub loop-byte-preserved : goal.loop-byte-preserved
 loop-byte-preserved c =
     let bytes = c.args.bytes.now in
     let i = c.loop-byte.byte-index in
-    c.loop-byte.invariant ∙ at_drop_more all_characters bytes i 0 c.loop-byte-test.true ∙ ap (λ (b : Bool). cond b (all_characters (drop (i + 1) bytes)) false) (sym c.if-not-is-character.ensures)
+    c.loop-byte.invariant ∙ at_drop_more all_characters bytes i 0 c.loop-byte-test.true ∙ ap (λ (b : Bool). cond b (all_characters (drop (i + 1) bytes)) false) (sym c.if-not-is_character.ensures)
 
-pub returns-then-not-is-character : goal.returns-then-not-is-character
-returns-then-not-is-character c =
+pub returns-then-not-is_character : goal.returns-then-not-is_character
+returns-then-not-is_character c =
     let bytes = c.args.bytes.now in
     let i = c.loop-byte.byte-index in
-    sym (c.loop-byte.invariant ∙ at_drop_more all_characters bytes i 0 c.loop-byte-test.true ∙ ap (λ (b : Bool). cond b (all_characters (drop (i + 1) bytes)) false) (sym c.if-not-is-character.ensures))
+    sym (c.loop-byte.invariant ∙ at_drop_more all_characters bytes i 0 c.loop-byte-test.true ∙ ap (λ (b : Bool). cond b (all_characters (drop (i + 1) bytes)) false) (sym c.if-not-is_character.ensures))
 
 pub returns : goal.returns
 returns c = sym (c.loop-byte.invariant ∙ at_drop_all all_characters c.args.bytes.now c.loop-byte.byte-index c.loop-byte-test.false)

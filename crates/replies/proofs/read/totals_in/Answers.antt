@@ -12,8 +12,8 @@ loop-i-preserved c =
     let bytes = c.args.bytes.now in
     let i = c.loop-i.i in
     let at : 8 + 4 * i ≡ 4 * (i + 1) + 4 = omega arith in
-    let is : c.from-be-bytes.result ≡ four_at bytes (8 + 4 * i) = search rules in
-    filled_more (λ p. four_at bytes (4 * p + 4)) 0 c.loop-i.totals i c.from-be-bytes.result c.loop-i-test.true (is ∙ ap (four_at bytes) at) c.loop-i.invariant
+    let is : c.from_be_bytes.result ≡ four_at bytes (8 + 4 * i) = search rules in
+    filled_more (λ p. four_at bytes (4 * p + 4)) 0 c.loop-i.totals i c.from_be_bytes.result c.loop-i-test.true (is ∙ ap (four_at bytes) at) c.loop-i.invariant
 
 pub returns : goal.returns
 unfolding totals_in

@@ -10,7 +10,7 @@ returns g c =
     let burst = c.args.burst.now in
     let k = g.K.Kind.facts in
     let parts = found_frame _ burst c.in-Some.ensures in
-    c.of-data.ensures
+    c.of_data.ensures
     ∙ ap (λ (n : ℕ). data_as k n c.in-Some.frame.inner.bytes.now) parts.0
     ∙ ap (data_as k (code_of burst)) parts.1
     ∙ ap (λ b. cond b (data_as k (code_of burst) (data_of burst)) (faults Unsound)) c.if-not-sound.ensures

@@ -10,7 +10,7 @@ loop-machine-preserved c =
     let i = c.loop-machine.machine-index in
     let xs = c.loop-machine.machine-items in
     let within : i < length xs = omega arith in
-    even_more c.args.amount _ xs i blank _ within c.loop-machine-test.true c.batch-evenly.ensures.machine c.loop-machine.invariant
+    even_more c.args.amount _ xs i blank _ within c.loop-machine-test.true c.batch_evenly.ensures.machine c.loop-machine.invariant
 
 pub returns : goal.returns
 returns c =

@@ -35,12 +35,12 @@ returns-in-NoMachine g c =
     let q = w.1 in
     record { answer = r.answer ∙ w.0; machines = cc }
 
-pub returns-in-default : goal.returns-in-default
-returns-in-default g c =
+pub returns-in_default : goal.returns-in_default
+returns-in_default g c =
     let a = c.args.address in
     let ns = c.args.amounts.now in
     let xs = g.A.Segment.machines c.args.self.now.left in
     let ys = g.B.Segment.machines c.args.self.now.right in
     let l = c.in-Err.ensures in
-    let w = batch_left a ns xs ys (λ h. c.in-default.not-NoMachine (same_refusal (drop_answer a ns xs) c.in-Err.refusal l.answer h)) in
+    let w = batch_left a ns xs ys (λ h. c.in_default.not-NoMachine (same_refusal (drop_answer a ns xs) c.in-Err.refusal l.answer h)) in
     record { answer = l.answer ∙ w.0; machines = ap (λ (ms : List Model). ms ++ ys) l.machines ∙ w.1 }
