@@ -53,3 +53,20 @@ joins_fit (Reply k) (Reply n) f g = tt
 joins_fit (Reply k) Clash f g = tt
 joins_fit Clash (Reply n) f g = tt
 joins_fit Clash Clash f g = tt
+
+-- what two drops said, wrote and became is what the joined drop says, writes and becomes
+module _ (b : List ℕ) (xs ys : List Model) {left right : Said} (l : left ≡ said_of (replies b xs)) (r : right ≡ said_of (replies b ys)) where
+  pub both_said : {s : Said} → s ≡ joined_said left right → s ≡ said_of (replies b (xs ++ ys))
+  both_said j =
+      j ∙ ap (λ s. joined_said s right) l ∙ ap (joined_said (said_of (replies b xs))) r
+      ∙ joins_said (replies b xs) (replies b ys) ∙ ap said_of (sym (replies-++ b xs ys))
+
+  pub both_out : {out next so_far : List ℕ} → out ≡ joined_out left right next so_far → so_far ≡ shows (replies b xs) → next ≡ shows (replies b ys) → out ≡ shows (replies b (xs ++ ys))
+  both_out {next = next} {so_far = so_far} j from to =
+      j ∙ ap (λ s. joined_out s right next so_far) l ∙ ap (λ s. joined_out (said_of (replies b xs)) s next so_far) r
+      ∙ ap (λ o. joined_out (said_of (replies b xs)) (said_of (replies b ys)) o so_far) to
+      ∙ ap (λ o. joined_out (said_of (replies b xs)) (said_of (replies b ys)) (shows (replies b ys)) o) from
+      ∙ joins_out (replies b xs) (replies b ys) ∙ ap shows (sym (replies-++ b xs ys))
+
+pub both_shown : (b : List ℕ) (xs ys : List Model) {vs ws : List Model} → vs ≡ shown b xs → ws ≡ shown b ys → vs ++ ws ≡ shown b (xs ++ ys)
+both_shown b xs ys {vs = vs} from to = ap (λ (us : List Model). vs ++ us) to ∙ ap (λ (us : List Model). us ++ shown b ys) from ∙ sym (shown-++ b xs ys)

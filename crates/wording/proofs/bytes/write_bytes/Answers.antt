@@ -11,7 +11,7 @@ loop-byte-init g c = λ p. record { wrote = writes_in_calls_nil g.W.Write.write_
 pub loop-byte-preserved : goal.loop-byte-preserved
 loop-byte-preserved g c = λ p.
     let before = c.loop-byte.invariant p in
-    let here = c.in_ok-write.ensures.shows before.plain refl in
+    let here = c.in_ok-write.ensures.writes before.plain refl in
     has_written_of_eq g.W.Write.write_str_gives _ _ _ _ (spaced_more c.args.bytes.now c.loop-byte.byte-index c.loop-byte-test.true) (has_written_append g.W.Write.write_str_gives _ _ _ _ _ before here)
 
 pub returns : goal.returns
