@@ -68,7 +68,7 @@ impl Segment for Rack {
         Address::new(address)?;
         for machine in self.machines.iter_mut() {
             if machine.address() == address {
-                return machine.batch(address, amounts);
+                return Segment::batch(machine, address, amounts);
             }
         }
         Err(Refusal::NoMachine)

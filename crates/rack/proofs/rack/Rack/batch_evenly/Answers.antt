@@ -17,6 +17,6 @@ returns c =
     let i = c.loop-machine.machine-index in
     let xs = c.loop-machine.machine-items in
     let past : length xs ≤ i = omega arith in
-    let full = take_all i _ c.loop-machine-test.false ∙ c.deref-mut-machine-items.ensures.value in
-    let long : length xs ≡ c.args.self.now.machines.len = c.loop-machine.auto.machine-items ∙ c.deref-mut-machine-items.ensures.len in
+    let full = take_all i _ c.loop-machine-test.false ∙ c.deref_mut-machine-items.ensures.value in
+    let long : length xs ≡ c.args.self.now.machines.len = c.loop-machine.auto.machine-items ∙ c.deref_mut-machine-items.ensures.len in
     ap models (take_at xs _ _ long) ∙ sym (ap models (take_all i xs past)) ∙ c.loop-machine.invariant.1 ∙ ap (λ (l : List AnyMachine). map (even_batched c.args.amount) (models l)) full

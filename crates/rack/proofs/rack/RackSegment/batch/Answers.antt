@@ -18,8 +18,8 @@ returns-then-address c =
     let within : i < length xs = omega arith in
     let same = sym c.address.ensures ∙ c.if-address.true in
     let done = batch_here a ns xs i blank v c.batch.result within same c.loop-machine.invariant.1 c.batch.ensures.answer c.batch.ensures.machines in
-    let all = c.loop-machine.invariant.0 ∙ c.deref-mut-machine-items.ensures.value in
-    let long : length (set xs i v) ≡ c.args.self.now.machines.len = length-set xs i v ∙ c.loop-machine.auto.machine-items ∙ c.deref-mut-machine-items.ensures.len in
+    let all = c.loop-machine.invariant.0 ∙ c.deref_mut-machine-items.ensures.value in
+    let long : length (set xs i v) ≡ c.args.self.now.machines.len = length-set xs i v ∙ c.loop-machine.auto.machine-items ∙ c.deref_mut-machine-items.ensures.len in
     record {
       answer = done.0 ∙ ap (λ (l : List AnyMachine). drop_answer a ns (models l)) all;
       machines = ap models (take_at (set xs i v) _ _ long) ∙ done.1 ∙ ap (λ (l : List AnyMachine). drop_batched a ns (models l)) all;
@@ -46,8 +46,8 @@ returns c =
     let xs = c.loop-machine.machine-items in
     let past : length xs ≤ i = omega arith in
     let none : drop_answer a ns (models xs) ≡ Err NoMachine = ap (λ (l : List AnyMachine). drop_answer a ns (models l)) (sym (take_all i xs past)) ∙ c.loop-machine.invariant.1 in
-    let all = c.loop-machine.invariant.0 ∙ c.deref-mut-machine-items.ensures.value in
-    let long : length xs ≡ c.args.self.now.machines.len = c.loop-machine.auto.machine-items ∙ c.deref-mut-machine-items.ensures.len in
+    let all = c.loop-machine.invariant.0 ∙ c.deref_mut-machine-items.ensures.value in
+    let long : length xs ≡ c.args.self.now.machines.len = c.loop-machine.auto.machine-items ∙ c.deref_mut-machine-items.ensures.len in
     record {
       answer = sym none ∙ ap (λ (l : List AnyMachine). drop_answer a ns (models l)) all;
       machines = ap models (take_at xs _ _ long) ∙ sym (none_changed a ns (models xs) none) ∙ ap (λ (l : List AnyMachine). drop_batched a ns (models l)) all;

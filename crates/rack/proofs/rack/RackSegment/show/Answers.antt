@@ -22,8 +22,8 @@ returns c =
     let i = c.loop-machine.machine-index in
     let xs = c.loop-machine.machine-items in
     let past : length xs ≤ i = omega arith in
-    let full = take_all i _ c.loop-machine-test.false ∙ c.deref-mut-machine-items.ensures.value in
-    let long : length xs ≡ c.args.self.now.machines.len = c.loop-machine.auto.machine-items ∙ c.deref-mut-machine-items.ensures.len in
+    let full = take_all i _ c.loop-machine-test.false ∙ c.deref_mut-machine-items.ensures.value in
+    let long : length xs ≡ c.args.self.now.machines.len = c.loop-machine.auto.machine-items ∙ c.deref_mut-machine-items.ensures.len in
     record {
       said = c.loop-machine.invariant.2 ∙ ap (λ (l : List AnyMachine). said_of (replies b (models l))) full;
       out = c.loop-machine.invariant.3 ∙ ap (λ (l : List AnyMachine). shows (replies b (models l))) full;
