@@ -1,5 +1,5 @@
 -- Replies: who gives one, and that none is empty.
-use Rattle.std.proofs.Common.{◌≡◌, ℕ, Bool, true, false, cond, List, ◌∷◌, length, Some, None, Option, refl, arith}
+use Rattle.std.proofs.Common.{◌≡◌, ℕ, Bool, true, false, cond, List, ◌∷◌, length, Some, None, refl, arith}
 use Rattle.mlan.specs.Commands.{read_as}
 use Rattle.mlan.specs.Checksum.{sealed}
 use Rattle.writing.specs.Answers.{answer_code, answer_data}

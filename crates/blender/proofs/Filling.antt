@@ -1,9 +1,9 @@
 -- A batch, one component after the other.
-use Rattle.std.proofs.Common.{◌≡◌, ℕ, zero, suc, ◌+◌, ◌-◌, ◌%◌, ◌<◌, ◌≤◌, Bool, true, false, cond, eqb, leb, ◌⊎◌, List, [], ◌∷◌, ◌++◌, length, get_or, take, drop, set, Some, None, Option, sym, refl, ap, ◌∙◌, inl, inr, add-one, arith, length-set, length-take}
+use Rattle.std.proofs.Common.{◌≡◌, ℕ, zero, suc, ◌+◌, ◌-◌, ◌%◌, ◌<◌, ◌≤◌, true, false, cond, eqb, ◌⊎◌, List, [], ◌∷◌, length, get_or, take, drop, set, Some, None, sym, refl, ap, ◌∙◌, inl, inr, add-one, arith, length-set}
 use lib.Bits.{bit_or}
-use Rattle.std.proofs.lemmas.List.{at_drop_more, take_more, drop_more, drop_all, take_all, get_or-set_same, get_or-set_other}
+use Rattle.std.proofs.lemmas.List.{at_drop_more, drop_more, drop_all, take_all, get_or-set_same, get_or-set_other}
 use Rattle.std.proofs.lemmas.Bool.{le-leb, lt-leb, eq-eqb, ne_eqb, cases_eq}
-use Rattle.kinds.specs.Kinds.{differs_from_all, apart}
+use Rattle.kinds.specs.Kinds.{apart}
 use Rattle.kinds.proofs.Components.{within_twelve, not_among, differs_later}
 use Rattle.terms.specs.Places.{each_place}
 use Rattle.terms.proofs.EachPlace.{filled_all}

@@ -4,7 +4,7 @@ use Rattle.std.proofs.lemmas.Bool.{eq-eqb}
 use Rattle.terms.specs.Fields.{tag_of}
 use Rattle.terms.specs.declared.Tag.{Tag}
 use Rattle.terms.specs.declared.TagFault.{TagFault}
-use Rattle.mlan.specs.Commands.{Reading, faults, front_piece, tag_reading, as_tag}
+use Rattle.mlan.specs.Commands.{faults, front_piece, tag_reading, as_tag}
 use Rattle.mlan.specs.Numbers.{four_at}
 use Rattle.mlan.specs.declared.fault.CommandFault.TheVariants.{Length}
 

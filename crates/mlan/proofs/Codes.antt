@@ -1,17 +1,16 @@
 -- What was read has the code of its burst, and fields in their ranges.
-use Rattle.std.proofs.Common.{◌≡◌, ℕ, zero, suc, ◌+◌, ◌-◌, ◌*◌, ◌<◌, ◌≤◌, Bool, true, false, cond, eqb, leb, List, [], ◌∷◌, length, get_or, take, drop, Some, None, Ok, Err, Option, Result, sym, refl, ap, ◌∙◌, subst, arith, get_or-drop}
+use Rattle.std.proofs.Common.{◌≡◌, ℕ, zero, suc, ◌+◌, ◌-◌, ◌<◌, ◌≤◌, Bool, true, false, cond, eqb, leb, List, [], ◌∷◌, length, get_or, take, drop, Some, None, Ok, Err, Option, Result, sym, refl, subst, arith, get_or-drop}
 use Rattle.std.proofs.lemmas.Bool.{eqb-true, leb-true}
 use Rattle.kinds.specs.Kinds.{KindFacts}
 use Rattle.terms.specs.Fields.{units_of, function_of, function_limit, is_pair, tag_of}
 use Rattle.terms.specs.declared.Function.{Function}
-use Rattle.terms.specs.declared.Function.TheVariants.{F82, F130}
 use Rattle.terms.specs.declared.Tag.{Tag}
 use Rattle.terms.specs.declared.Tag.TheVariants.{Recipe, WorkOrder, Operator}
 use Rattle.terms.specs.declared.TagFault.{TagFault}
 use Rattle.terms.specs.declared.TagFault.TheVariants.{Letters, Value}
 use Rattle.terms.specs.declared.WeightUnits.{WeightUnits}
 use Rattle.mlan.specs.Checksum.{is_sound}
-use Rattle.mlan.specs.Commands.{Said, get_totals, set_settings, get_settings, get_type, set_function, get_functions, get_version, get_units, set_units, set_keypad, set_tag, Reading, reads, faults, sized, field, within, flag_of, sound_rows, no_data, front_piece, behind_rows, as_settings, as_function, as_functions, as_units, as_keypad, tag_reading, as_tag, plain_code, by_code, data_as, read_as}
+use Rattle.mlan.specs.Commands.{Said, get_totals, set_settings, get_settings, get_type, set_function, get_functions, get_version, get_units, set_units, set_keypad, set_tag, Reading, reads, faults, sized, field, within, flag_of, sound_rows, front_piece, behind_rows, tag_reading, by_code, data_as, read_as}
 use Rattle.mlan.specs.Frame.{Piece, code_of, data_of}
 use Rattle.mlan.specs.Numbers.{Bytes, two_at, four_at}
 use Rattle.mlan.specs.Rows.{rows_fault, rows_in, RowsPass}

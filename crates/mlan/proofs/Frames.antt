@@ -1,5 +1,5 @@
 -- Lists of bytes under the two slice patterns of a frame.
-use Rattle.std.proofs.Common.{◌≡◌, ℕ, ◌+◌, ◌-◌, ◌<◌, ◌≤◌, Bool, true, false, cond, leb, List, length, get_or, take, drop, Some, None, Option, refl, ap, ◌∙◌, arith, length-drop, le-leb}
+use Rattle.std.proofs.Common.{◌≡◌, ℕ, ◌+◌, ◌-◌, ◌≤◌, Bool, true, false, cond, leb, List, length, get_or, take, drop, Some, None, Option, ap, ◌∙◌, arith, length-drop, le-leb}
 use Rattle.std.proofs.lemmas.List.{take_rest, get_or-drop}
 use Rattle.mlan.specs.Frame.{Framing, framed, code_of, data_of, part_of}
 

@@ -1,5 +1,5 @@
 -- What a command says does not depend on the kind that reads it.
-use Rattle.std.proofs.Common.{◌≡◌, ℕ, ◌+◌, Bool, true, false, cond, eqb, List, length, Some, None, Option, sym, refl, ap, ◌∙◌, arith}
+use Rattle.std.proofs.Common.{◌≡◌, ℕ, ◌+◌, Bool, true, false, cond, eqb, List, length, Some, None, Option, arith}
 use Rattle.kinds.specs.Kinds.{KindFacts}
 use Rattle.mlan.specs.Checksum.{is_sound}
 use Rattle.mlan.specs.Commands.{Said, Reading, reads, faults, front_piece, sound_rows, behind_rows, as_settings, plain_code, by_code, data_as, read_as}

@@ -1,14 +1,13 @@
 -- Rows come back: what `rows_bytes` writes, `row_piece` finds, wherever in a burst it stands; and rows without a fault are the kind's.
-use Rattle.std.proofs.Common.{◌≡◌, ℕ, zero, suc, ◌+◌, ◌-◌, ◌*◌, ◌/◌, ◌%◌, ◌<◌, ◌≤◌, Bool, true, false, cond, ◌&&◌, eqb, leb, ◌⊎◌, List, [], ◌∷◌, ◌++◌, length, get_or, take, drop, Some, None, Option, sym, refl, ap, ◌∙◌, inl, inr, arith, length-append}
+use Rattle.std.proofs.Common.{◌≡◌, ℕ, zero, suc, ◌+◌, ◌-◌, ◌*◌, ◌<◌, ◌≤◌, Bool, true, false, cond, eqb, leb, List, [], ◌∷◌, length, get_or, take, drop, Some, None, Option, sym, refl, ap, ◌∙◌, inl, inr, arith, length-append}
 use Rattle.std.proofs.lemmas.List.FromFn.{length-map-range_with_len}
 use Rattle.std.proofs.lemmas.Bool.{and_from, leb-true, le-leb, eq-eqb, cond-true, cases_eq}
 use Rattle.kinds.specs.Kinds.{KindFacts}
-use Rattle.terms.specs.Places.{each_place}
 use Rattle.terms.specs.declared.Row.{Row}
 use Rattle.terms.proofs.EachPlace.{at_place, filled_all}
 use Rattle.mlan.specs.Frame.{Piece}
 use Rattle.mlan.specs.Numbers.{two_at}
-use Rattle.mlan.specs.Rows.{row_bytes, rows_bytes, is_whole, row_piece, row_found, greatest_type, greatest_setting, row_fault, found_fault, or_else, faults_from, rows_fault, row_of, row_at, rows_in, zero_row, RowsPass}
+use Rattle.mlan.specs.Rows.{row_bytes, rows_bytes, is_whole, row_piece, row_found, greatest_type, greatest_setting, found_fault, or_else, faults_from, rows_fault, row_of, row_at, rows_in, zero_row, RowsPass}
 use Rattle.mlan.proofs.Numerals.{two_back}
 
 pub length_rows : (rows : List Row) → length (rows_bytes rows) ≡ 3 * length rows

@@ -1,5 +1,5 @@
 -- What a command says, and which bursts are commands of a kind.
-use Rattle.std.specs.Prelude.{ℕ, zero, suc, ◌+◌, ◌-◌, ◌*◌, Bool, true, false, cond, List, [], ◌∷◌, length, take, Some, None, Ok, Err, Option, Result, ◌==◌, nat_le, slice_index}
+use Rattle.std.specs.Prelude.{ℕ, ◌+◌, Bool, true, false, cond, List, length, take, Some, None, Ok, Err, Option, Result, ◌==◌, nat_le, slice_index}
 use Rattle.kinds.specs.Kinds.{KindFacts}
 use Rattle.terms.specs.Fields.{units_of, function_of, function_limit, tag_of}
 use Rattle.terms.specs.declared.Function.{Function}

@@ -1,5 +1,5 @@
 -- A rack's machines, one after the other.
-use Rattle.std.proofs.Common.{◌≡◌, ℕ, ◌+◌, ◌<◌, Bool, true, false, cond, eqb, List, [], ◌∷◌, ◌++◌, map, length, get_or, take, drop, set, Some, None, Ok, Err, Option, Result, sym, refl, ap, ◌∙◌, subst, add-one, arith, drop-cons, drop-set-lt, eq-eqb, ne_eqb}
+use Rattle.std.proofs.Common.{◌≡◌, ℕ, ◌+◌, ◌<◌, Bool, true, false, cond, eqb, List, [], ◌∷◌, ◌++◌, map, length, get_or, take, drop, set, Some, None, Err, Result, sym, ap, ◌∙◌, subst, add-one, arith, drop-cons, drop-set-lt, eq-eqb, ne_eqb}
 use mathlib.Core.List.{map-append}
 use lib.Seq.{set_split, set-get_or}
 use Rattle.std.proofs.lemmas.List.{take_more, take_more_set}
@@ -9,7 +9,7 @@ use Rattle.terms.specs.declared.Refusal.TheVariants.{NoAddress, NoMachine}
 use Rattle.terms.specs.declared.Unit.TheVariants.{Tenths}
 use Rattle.terms.specs.declared.WeightUnits.TheVariants.{Pounds}
 use Rattle.blender.specs.Machines.{Model}
-use Rattle.segment.specs.Drops.{when_accepted, leftmost, machine_answer, drop_answer, leftmost_filled, drop_batched, replies, shown}
+use Rattle.segment.specs.Drops.{when_accepted, machine_answer, drop_answer, leftmost_filled, drop_batched, replies, shown}
 use Rattle.segment.specs.Saying.{said_of, Fits, joined_said, joined_out}
 use Rattle.segment.specs.declared.segment.Said.{Said}
 use Rattle.segment.proofs.Joins.{none_there, batch_left, batch_right}

@@ -1,5 +1,5 @@
 -- The faults of twelve rows, one after the other.
-use Rattle.std.proofs.Common.{◌≡◌, ℕ, suc, ◌+◌, ◌-◌, ◌<◌, ◌≤◌, Some, None, Option, ap, ◌∙◌, arith}
+use Rattle.std.proofs.Common.{◌≡◌, ℕ, suc, ◌+◌, ◌-◌, ◌<◌, ◌≤◌, Some, None, ap, ◌∙◌, arith}
 use Rattle.kinds.specs.Kinds.{KindFacts}
 use Rattle.mlan.specs.Frame.{Piece}
 use Rattle.mlan.specs.Rows.{row_found, found_fault, or_else, faults_from}

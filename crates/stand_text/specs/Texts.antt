@@ -1,5 +1,5 @@
 -- The line that is printed of what came of a line.
-use Rattle.std.specs.Prelude.{ℕ, List, [], ◌∷◌, ◌++◌, take, Some, codes, decimal, Option}
+use Rattle.std.specs.Prelude.{ℕ, List, [], ◌∷◌, ◌++◌, take, codes, decimal}
 use Rattle.terms.specs.declared.Unit.{Unit as MassUnit}
 use Rattle.terms.specs.declared.Unit.TheVariants.{Tenths, Grams}
 use Rattle.terms.specs.Refusals.{number_of}

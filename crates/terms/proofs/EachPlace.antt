@@ -1,9 +1,9 @@
 -- Lists with something for each of the twelve places.
-use Rattle.std.proofs.Common.{◌≡◌, ℕ, ◌+◌, ◌-◌, ◌<◌, ◌≤◌, ◌⊎◌, List, map, length, get_or, set, sym, ap, ◌∙◌, inl, inr, arith, length-set}
+use Rattle.std.proofs.Common.{◌≡◌, ℕ, ◌+◌, ◌-◌, ◌<◌, ◌≤◌, ◌⊎◌, List, length, get_or, set, sym, ap, ◌∙◌, inl, inr, arith, length-set}
 use Rattle.std.proofs.lemmas.List.FromFn.{length-map-range_with_len, get_or-map-range_with_len}
 use Rattle.std.proofs.lemmas.List.{ext_get_or, get_or-set_same, get_or-set_other}
 use Rattle.std.proofs.lemmas.Bool.{cases_eq}
-use Rattle.terms.specs.Places.{places, each_place}
+use Rattle.terms.specs.Places.{each_place}
 
 module _ {X : Type 0} (f : ℕ → X) (d : X) where
   pub at_place : (p : ℕ) → 1 ≤ p → p ≤ 12 → get_or (each_place f) (p - 1) d ≡ f p

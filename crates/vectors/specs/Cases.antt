@@ -1,8 +1,7 @@
 -- Worked cases, against which the definitions are held: for a new Twelve in tenths of grams at address 5.
-use Rattle.std.specs.Prelude.{◌≡◌, ℕ, List, [], ◌∷◌, replicate, Some, None, Ok, Err, Option, Result}
+use Rattle.std.specs.Prelude.{◌≡◌, ℕ, List, [], ◌∷◌, replicate, Some, None, Ok, Err, Option}
 use Rattle.kinds.specs.Kinds.{twelve_facts}
 use Rattle.terms.specs.Refusals.{number_of}
-use Rattle.terms.specs.declared.Refusal.{Refusal}
 use Rattle.terms.specs.declared.Refusal.TheVariants.{TooLarge}
 use Rattle.terms.specs.declared.Unit.TheVariants.{Tenths}
 use Rattle.blender.specs.Batches.{batch_answer}

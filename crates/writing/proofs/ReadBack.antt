@@ -1,5 +1,5 @@
 -- Reading a command that was written gives back what was meant.
-use Rattle.std.proofs.Common.{◌≡◌, ℕ, suc, ◌+◌, ◌-◌, ◌*◌, ◌/◌, ◌%◌, ◌<◌, ◌≤◌, Bool, true, false, cond, ◌&&◌, eqb, leb, List, [], ◌∷◌, ◌++◌, length, get_or, take, drop, is_ok, Some, None, Ok, Err, sum, Option, sym, refl, ap, ◌∙◌, arith, length-append}
+use Rattle.std.proofs.Common.{◌≡◌, ℕ, ◌+◌, ◌-◌, ◌*◌, ◌%◌, ◌<◌, ◌≤◌, Bool, true, false, cond, leb, List, [], ◌∷◌, ◌++◌, length, get_or, take, is_ok, Some, None, Ok, Err, sum, refl, ap, ◌∙◌, arith, length-append}
 use Rattle.std.proofs.lemmas.List.{take_at, get_or-append_right}
 use Rattle.std.proofs.lemmas.List.Sums.{sum_by-append}
 use Rattle.std.proofs.lemmas.Bool.{and_parts, and_from, leb-true, le-leb, eq-eqb, cond-true}
@@ -10,11 +10,11 @@ use Rattle.terms.specs.declared.Row.{Row}
 use Rattle.terms.specs.declared.Tag.{Tag}
 use Rattle.terms.specs.declared.Tag.TheVariants.{Recipe, WorkOrder, Operator}
 use Rattle.terms.specs.declared.TagFault.{TagFault}
-use Rattle.terms.specs.declared.TagFault.TheVariants.{Letters, Value}
+use Rattle.terms.specs.declared.TagFault.TheVariants.{Value}
 use Rattle.terms.specs.declared.WeightUnits.TheVariants.{Pounds, Ounces, WholeGrams, Kilograms}
 use Rattle.mlan.specs.Checksum.{checksum, sealed, is_sound}
-use Rattle.mlan.specs.Commands.{Said, set_settings, set_function, set_tag, Reading, reads, faults, sized, field, within, sound_rows, front_piece, behind_rows, as_settings, as_function, tag_reading, as_tag, by_code, data_as, read_as}
-use Rattle.mlan.specs.Frame.{Piece, code_of, data_of}
+use Rattle.mlan.specs.Commands.{set_settings, set_function, set_tag, Reading, reads, faults, field, within, sound_rows, front_piece, behind_rows, as_settings, as_function, tag_reading, as_tag, data_as, read_as}
+use Rattle.mlan.specs.Frame.{Piece, data_of}
 use Rattle.mlan.specs.Numbers.{two, four, two_at, four_at}
 use Rattle.writing.specs.Requests.{request_code, request_data, request_bytes, rows_in_range, tag_in_range, in_range, meant, SameRows, ReadsBack, TwelveRows}
 use Rattle.mlan.specs.Rows.{rows_bytes, rows_fault}

@@ -1,15 +1,13 @@
 -- Rows come back: what `rows_bytes` writes, `row_piece` finds.
-use Rattle.std.proofs.Common.{◌≡◌, ℕ, zero, suc, ◌+◌, ◌-◌, ◌*◌, ◌/◌, ◌%◌, ◌<◌, ◌≤◌, Bool, true, false, cond, ◌&&◌, eqb, leb, List, [], ◌∷◌, ◌++◌, length, get_or, take, drop, Some, None, Option, sym, refl, ap, ◌∙◌, arith, length-append}
-use Rattle.std.proofs.lemmas.List.{ext_get_or}
-use Rattle.std.proofs.lemmas.Bool.{and_parts, and_from, leb-true, le-leb, eq-eqb, cond-true, false≢true}
+use Rattle.std.proofs.Common.{◌≡◌, ℕ, zero, suc, ◌+◌, ◌-◌, ◌*◌, ◌<◌, ◌≤◌, Bool, true, false, cond, ◌&&◌, eqb, leb, List, [], ◌∷◌, length, get_or, take, drop, Some, None, sym, refl, ap, ◌∙◌, arith, length-append}
+use Rattle.std.proofs.lemmas.Bool.{and_parts, and_from, leb-true, le-leb, cond-true, false≢true}
 use Rattle.kinds.specs.Kinds.{twelve_facts}
-use Rattle.terms.specs.Places.{each_place}
 use Rattle.terms.specs.declared.Row.{Row}
 use Rattle.terms.proofs.EachPlace.{filled_all}
 use Rattle.mlan.specs.Frame.{Piece}
 use Rattle.mlan.specs.Numbers.{two_at}
 use Rattle.writing.specs.Requests.{row_in_range, rows_in_range}
-use Rattle.mlan.specs.Rows.{row_bytes, rows_bytes, is_whole, row_piece, row_found, row_fault, found_fault, or_else, faults_from, rows_fault, row_of, row_at, rows_in, zero_row}
+use Rattle.mlan.specs.Rows.{row_bytes, rows_bytes, is_whole, row_piece, row_found, found_fault, or_else, faults_from, rows_fault, row_of, row_at, rows_in, zero_row}
 use Rattle.mlan.proofs.Numerals.{two_back}
 
 pub length_rows : (rows : List Row) → length (rows_bytes rows) ≡ 3 * length rows

@@ -6,7 +6,7 @@ use Rattle.terms.specs.declared.Row.{Row}
 use Rattle.terms.specs.declared.Tag.{Tag}
 use Rattle.terms.specs.declared.Tag.TheVariants.{Recipe, WorkOrder, Operator}
 use Rattle.mlan.specs.Checksum.{sealed}
-use Rattle.mlan.specs.Commands.{Said, get_totals, set_settings, get_settings, get_type, set_function, get_functions, get_version, get_units, set_units, set_keypad, set_tag, Reading, reads, read_as}
+use Rattle.mlan.specs.Commands.{Said, get_totals, set_settings, get_settings, get_type, set_function, get_functions, get_version, get_units, set_units, set_keypad, set_tag, reads, read_as}
 use Rattle.mlan.specs.Numbers.{two, four}
 use Rattle.mlan.specs.Rows.{rows_bytes, rows_in}
 use Rattle.writing.specs.declared.request.Request.{Request}

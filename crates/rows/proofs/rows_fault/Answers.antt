@@ -1,4 +1,4 @@
-use Rattle.std.proofs.Common.{◌≡◌, sym, ap, ◌∙◌}
+use Rattle.std.proofs.Common.{sym, ap, ◌∙◌}
 use Rattle.mlan.specs.Frame.{piece}
 use Rattle.mlan.specs.Rows.{found_fault}
 use Rattle.rows.proofs.EachRow.{fault_here, no_fault_here, no_row_left}

@@ -1,4 +1,4 @@
-use Rattle.std.proofs.Common.{◌≡◌, refl, ap, ◌∙◌, arith}
+use Rattle.std.proofs.Common.{refl, ap, ◌∙◌, arith}
 use Rattle.terms.proofs.EachPlace.{filled_more, filled_all}
 use Rattle.mlan.specs.Frame.{piece}
 use Rattle.mlan.specs.Rows.{row_at, row_of, rows_in, zero_row}

@@ -1,4 +1,4 @@
-use Rattle.std.proofs.Common.{◌≡◌, ℕ, ◌+◌, ◌*◌, ◌<◌, ◌≤◌, length, get_or, drop, sym, ap, ◌∙◌, arith, rules}
+use Rattle.std.proofs.Common.{◌+◌, ◌*◌, ◌<◌, ◌≤◌, get_or, drop, sym, ap, ◌∙◌, arith, rules}
 use Rattle.script.specs.Numerals.{with_digit, number_from}
 use Rattle.script.proofs.Reading.{no_digit, past_limit, one_more, no_more, in_some}
 use Rattle.script.proofs.number.Goals as goal

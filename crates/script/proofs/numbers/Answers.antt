@@ -1,4 +1,4 @@
-use Rattle.std.proofs.Common.{◌≡◌, cond, List, [], ◌∷◌, ◌++◌, is_ok, vec_items, sym, ap, ◌∙◌}
+use Rattle.std.proofs.Common.{vec_items}
 use Rattle.script.proofs.Reading.{listed_more}
 use Rattle.script.proofs.numbers.Goals as goal
 

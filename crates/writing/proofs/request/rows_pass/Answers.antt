@@ -1,5 +1,5 @@
-use Rattle.std.proofs.Common.{◌≡◌, false, cond, drop, sym, ap, ◌∙◌}
-use Rattle.std.proofs.lemmas.List.{at_drop_more, at_drop_all}
+use Rattle.std.proofs.Common.{sym, ◌∙◌}
+use Rattle.std.proofs.lemmas.List.{at_drop_all}
 use Rattle.writing.specs.Requests.{rows_in_range}
 use Rattle.writing.proofs.Ranges.{row_out, row_in}
 use Rattle.writing.proofs.request.rows_pass.Goals as goal

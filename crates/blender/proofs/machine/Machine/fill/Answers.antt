@@ -1,4 +1,4 @@
-use Rattle.std.proofs.Common.{◌≡◌, ℕ, ◌<◌, ◌≤◌, List, length, sym, refl, ap, ◌∙◌, arith, rules}
+use Rattle.std.proofs.Common.{◌<◌, ◌≤◌, length, sym, ◌∙◌, arith, rules}
 use Rattle.kinds.specs.Kinds.{places}
 use Rattle.kinds.proofs.Components.{component_place, length_listed}
 use Rattle.blender.specs.Batches.{filled}

@@ -1,5 +1,5 @@
-use Rattle.std.proofs.Common.{◌≡◌, ℕ, cond, List, sym, refl, ap, ◌∙◌}
-use Rattle.mlan.specs.Commands.{Reading, data_as, faults}
+use Rattle.std.proofs.Common.{ℕ, cond, ap, ◌∙◌}
+use Rattle.mlan.specs.Commands.{data_as, faults}
 use Rattle.mlan.specs.Frame.{code_of, data_of}
 use Rattle.mlan.specs.declared.fault.CommandFault.TheVariants.{Unsound}
 use Rattle.mlan.proofs.Frames.{found_frame}

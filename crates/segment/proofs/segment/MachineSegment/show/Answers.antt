@@ -1,4 +1,4 @@
-use Rattle.std.proofs.Common.{sym, ap, ◌∙◌, rules}
+use Rattle.std.proofs.Common.{sym, ◌∙◌, rules}
 use Rattle.blender.specs.Machines.{model}
 use Rattle.blender.proofs.Answering.{no_bytes}
 use Rattle.segment.proofs.segment.MachineSegment.show.Goals as goal
