@@ -1,4 +1,4 @@
-use Rattle.cable.specs.Kept.{placed}
+use Rattle.cable.proofs.Kept.{placed}
 use Rattle.cable.proofs.queue.Queue.put.Goals as goal
 
 pub returns-in-Some : goal.returns-in-Some
