@@ -2,4 +2,3 @@ pub mod Bursts
 pub mod Held
 pub mod Pools
 pub mod Rules
-pub mod Kept

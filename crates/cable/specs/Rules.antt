@@ -1,16 +1,25 @@
 -- A line that keeps to a rule of putting, and gives its first burst, does what a line may do.
-use Rattle.std.specs.Prelude.{◌≡◌, ℕ, zero, suc, Bool, true, false, cond, ◌⊎◌, List, [], ◌∷◌, ◌++◌, map, length, take, Some, None, Option, nat_lt, refl}
-use Rattle.std.proofs.Common.{sym, ap, ◌∙◌, subst, inl, inr, arith}
-use Rattle.std.proofs.lemmas.Bool.{cases_Bool}
+use Rattle.std.specs.Prelude.{◌≡◌, ℕ, zero, suc, Bool, true, false, cond, ◌&&◌, List, [], ◌∷◌, ◌++◌, map, length, take, Some, None, Option, nat_le, nat_lt, refl}
+use Rattle.std.proofs.Common.{◌≤◌, sym, ap, ◌∙◌, subst, inl, inr, le-leb}
+use Rattle.std.proofs.lemmas.List.{length-take-le}
+use Rattle.std.proofs.lemmas.Option.{none-some, same_Some}
 use Rattle.cable.specs.Bursts.{is_burst, burst_bytes}
 use Rattle.cable.specs.Pools.{other, Motion, puts, takes, In, Within, Gives, Putting, Lawful}
-use Rattle.cable.specs.Held.{slot_pool, queued, pair_pool, carrier_pool, first, rest, replaced, lined, Exact}
+use Rattle.cable.specs.Held.{slot_pool, pair_pool, carrier_pool, first, rest, replaced, lined, Exact}
 use Rattle.cable.specs.declared.Way.{Way}
 use Rattle.cable.specs.declared.Way.TheVariants.{Down, Up}
 use Rattle.cable.specs.declared.burst.Burst.{Burst}
 use Rattle.cable.specs.declared.carrier.Carrier.{Carrier}
 use Rattle.cable.specs.declared.pair.Pair.{Pair}
-use Rattle.cable.specs.Kept.{kept_burst}
+
+-- the bytes of a kept burst are a burst
+kept_burst : (b : Burst) → is_burst (burst_bytes b) ≡ true
+kept_burst b =
+    subst (λ (n : ℕ). (nat_le 1 n && nat_le n 64) ≡ true) (sym long)
+    (subst (λ (t : Bool). (t && nat_le b.len 64) ≡ true) (sym (le-leb 1 b.len b.from_one)) (le-leb b.len 64 b.to_64))
+  where
+    long : length (burst_bytes b) ≡ b.len
+    long = length-take-le b.len b.bytes (subst (λ (n : ℕ). b.len ≤ n) (sym b.room) b.to_64)
 
 -- every burst of a pool is one
 abbrev Bursts : List (List ℕ) → Type 0
@@ -25,8 +34,8 @@ rest_within (c ∷ p) b i = inr i
 
 gives_first : (o : Option (List ℕ)) (p : List (List ℕ)) → Bursts p → o ≡ first p → Gives p o
 gives_first None p all e = tt
-gives_first (Some b) [] all e = let z : ◌≡◌ {A = ℕ} 0 1 = cc in absurd (omega arith)
-gives_first (Some b) (c ∷ p) all e = (all b e, inl (inl (cc)))
+gives_first (Some b) [] all e = absurd (none-some b (sym e))
+gives_first (Some b) (c ∷ p) all e = (all b e, inl (inl (same_Some b c e)))
 
 module _ (rule : List ℕ → List (List ℕ) → List (List ℕ)) (puts-law : (near far : List (List ℕ)) (b : List ℕ) → Putting (is_burst b) b near far (rule b near) far) where
   lawful : (m : Motion) (w : Way) (s t : Way → List (List ℕ)) → Bursts (s w) → Exact rule w m s t → Lawful m (s w) (s (other w)) (t w) (t (other w))
@@ -58,14 +67,14 @@ lined_law near far b = by_burst near far (cond (nat_lt (length near) 8) (near ++
     within false c i = inr i
 
 slot_bursts : (o : Option Burst) → Bursts (slot_pool o)
-slot_bursts None b e = let z : ◌≡◌ {A = ℕ} 0 1 = cc in absurd (omega arith)
-slot_bursts (Some k) b e = let same_bytes : b ≡ burst_bytes k = cc in ap is_burst same_bytes ∙ kept_burst k
+slot_bursts None b e = absurd (none-some b (sym e))
+slot_bursts (Some k) b e = ap is_burst (same_Some b (burst_bytes k) e) ∙ kept_burst k
 
 queue_bursts : (slots : List Burst) (n : ℕ) → Bursts (map burst_bytes (take n slots))
-queue_bursts [] zero b e = let z : ◌≡◌ {A = ℕ} 0 1 = cc in absurd (omega arith)
-queue_bursts [] (suc n) b e = let z : ◌≡◌ {A = ℕ} 0 1 = cc in absurd (omega arith)
-queue_bursts (k ∷ ks) zero b e = let z : ◌≡◌ {A = ℕ} 0 1 = cc in absurd (omega arith)
-queue_bursts (k ∷ ks) (suc n) b e = let same_bytes : b ≡ burst_bytes k = cc in ap is_burst same_bytes ∙ kept_burst k
+queue_bursts [] zero b e = absurd (none-some b (sym e))
+queue_bursts [] (suc n) b e = absurd (none-some b (sym e))
+queue_bursts (k ∷ ks) zero b e = absurd (none-some b (sym e))
+queue_bursts (k ∷ ks) (suc n) b e = ap is_burst (same_Some b (burst_bytes k) e) ∙ kept_burst k
 
 pub pair_lawful : (s : Pair) (w : Way) (m : Motion) (t : Pair) → Exact replaced w m (pair_pool s) (pair_pool t) → Lawful m (pair_pool s w) (pair_pool s (other w)) (pair_pool t w) (pair_pool t (other w))
 pair_lawful s w m t e = lawful replaced replaced_law m w (pair_pool s) (pair_pool t) (all w) e

@@ -6,7 +6,7 @@ use Rattle.std.specs.Option.{option_map}
 use Rattle.blender.specs.Machines.{Model, bytes_of}
 use Rattle.cable.specs.Bursts.{is_burst, burst_bytes}
 use Rattle.cable.specs.declared.burst.Burst.{Burst}
-use Rattle.cable.specs.Kept.{is_burst_from}
+use Rattle.cable.proofs.Kept.{is_burst_from}
 use Rattle.mlan.specs.Checksum.{padded}
 use Rattle.segment.specs.Drops.{replies, only, drop_reply}
 use Rattle.segment.specs.Saying.{said_of}

@@ -1,6 +1,6 @@
 -- Bursts that are kept: made, written over lent bytes, queued.
-use Rattle.std.specs.Prelude.{◌≡◌, ℕ, zero, suc, ◌+◌, ◌-◌, ◌<◌, ◌≤◌, Bool, true, false, cond, ◌&&◌, ◌⊎◌, List, [], ◌∷◌, ◌++◌, map, length, take, drop, Some, None, Option, ◌≢◌, slice_index_or, slice_set, refl}
-use Rattle.std.proofs.Common.{sym, ap, ◌∙◌, subst, inl, inr, arith, length-take, lt-ltb, le-leb}
+use Rattle.std.specs.Prelude.{◌≡◌, ℕ, zero, suc, ◌+◌, ◌-◌, ◌<◌, ◌≤◌, true, cond, List, [], ◌∷◌, ◌++◌, map, length, take, drop, Some, None, Option, ◌≢◌, slice_index_or, slice_set, refl}
+use Rattle.std.proofs.Common.{ap, ◌∙◌, inl, inr, arith, length-take, lt-ltb, le-leb}
 use Rattle.std.proofs.Math.Nat.{sub-zero}
 use Rattle.std.proofs.lemmas.List.{take_at, drop_at, take_more_set, map-append, length-map, take-append-le}
 use Rattle.std.proofs.lemmas.Bool.{cases_Bool}
@@ -11,12 +11,6 @@ use Rattle.cable.specs.declared.burst.Burst.{Burst}
 
 pub is_burst_from : (b : List ℕ) → 1 ≤ length b → length b ≤ 64 → is_burst b ≡ true
 is_burst_from b some few = let l = le-leb 1 (length b) some in let u = le-leb (length b) 64 few in simp (l, u)
-
--- the bytes of a kept burst are a burst
-pub kept_burst : (b : Burst) → is_burst (burst_bytes b) ≡ true
-kept_burst b =
-    let l : length (burst_bytes b) ≡ b.len = length-take b.len b.bytes ∙ omega arith in
-    is_burst_from (burst_bytes b) (omega arith) (omega arith)
 
 -- what is written at the front of a buffer is read there again
 pub stored : (b old written : List ℕ) → written ≡ b → 1 ≤ length b → length b ≤ 64 → Some (take (length b) (written ++ old)) ≡ cond (is_burst b) (Some b) None
