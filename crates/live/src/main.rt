@@ -4,7 +4,7 @@
 
 use anyhow::anyhow;
 use live_cable::arguments::named;
-use live_cable::cable::LiveCable;
+use live_cable::machines::LiveCable;
 use std::env;
 use std::io::{Read, Write};
 

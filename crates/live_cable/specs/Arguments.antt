@@ -8,7 +8,7 @@ use Rattle.script.specs.Numerals.{number_in}
 use Rattle.wording.specs.Plates.{Plated, plate_in}
 use Rattle.wording.specs.declared.plate.Plate.{Plate}
 use Rattle.live_cable.specs.Cables.{live}
-use Rattle.live_cable.specs.declared.cable.LiveCable.{LiveCable}
+use Rattle.live_cable.specs.declared.machines.LiveCable.{LiveCable}
 use Rattle.live_cable.specs.declared.fault.ArgumentFault.{ArgumentFault}
 use Rattle.live_cable.specs.declared.fault.ArgumentFault.TheVariants.{NoMachine, Machine, Address, TooMany, Each, TooLarge, Memory}
 

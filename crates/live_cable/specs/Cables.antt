@@ -3,7 +3,7 @@ use Rattle.std.specs.Prelude.{ℕ, List, map, Some, None, Option}
 use Rattle.blender.specs.Machines.{Model}
 use Rattle.rack.specs.Hanging.{racked}
 use Rattle.rack.specs.Racks.{even_batched}
-use Rattle.live_cable.specs.declared.cable.LiveCable.{LiveCable}
+use Rattle.live_cable.specs.declared.machines.LiveCable.{LiveCable}
 
 abbrev pub live : LiveCable → List Model
 live c = racked c.machines

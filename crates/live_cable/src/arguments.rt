@@ -3,8 +3,8 @@ ghost use Rattle.rack.specs.Hanging.{racked};
 ghost use Rattle.script.specs.Words.{words};
 ghost use Rattle.live_cable.specs.Arguments.{Named, Hung, each_amount, hung, all_named, named_from};
 
-use super::cable::LiveCable;
 use super::fault::ArgumentFault;
+use super::machines::LiveCable;
 use rack::AnyMachine;
 use rack::rack::{Rack, RackFault};
 use script::{Numeral, says, split_word};

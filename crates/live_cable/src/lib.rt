@@ -2,5 +2,5 @@
 #![tactic(auto)]
 
 pub mod arguments;
-pub mod cable;
 pub mod fault;
+pub mod machines;
