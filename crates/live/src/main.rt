@@ -41,11 +41,8 @@ fn main(rt: HostRuntime) -> anyhow::Result<()> {
     let line = command_line(&rt)?;
     match named(rt.alloc(), line.as_bytes()) {
         Ok(mut cable) => serve(&rt, &mut cable),
-        Err(fault) => {
-            eprintln!(rt;
-                "live: {fault}; usage: live ADDRESS KIND UNIT .. [each N], KIND four, twelve or feeder, UNIT tenths or grams"
-            )?;
-            Err(anyhow!("the command line names no machines"))
-        }
+        Err(fault) => Err(anyhow!(
+            "{fault}; usage: live ADDRESS four|twelve|feeder tenths|grams .. [each N]"
+        )),
     }
 }
