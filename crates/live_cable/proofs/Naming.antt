@@ -1,12 +1,12 @@
 -- A command line, machine by machine.
-use Rattle.std.proofs.Common.{◌≡◌, ℕ, Bool, true, false, cond, List, [], ◌∷◌, Some, None, Ok, Err, Option, Result, sym, refl, ap, ◌∙◌, arith}
+use Rattle.std.proofs.Common.{◌≡◌, ℕ, true, false, cond, List, [], ◌∷◌, Some, None, Option, Result, sym, refl, ap, ◌∙◌}
 use Rattle.terms.specs.declared.KindName.{KindName}
 use Rattle.terms.specs.declared.Unit.{Unit as MassUnit}
 use Rattle.blender.specs.Machines.{Model}
 use Rattle.script.specs.Numerals.{number_in}
 use Rattle.wording.specs.Plates.{Plated, plate_of, plate_in, kind_of, unit_of}
 use Rattle.wording.specs.declared.plate.Plate.{Plate}
-use Rattle.live_cable.specs.Arguments.{Names, wrong, all_named, each_amount, with_each, hung, is_each, next, plate_next, named_from, Unhung, Wrong}
+use Rattle.live_cable.specs.Arguments.{Names, wrong, each_amount, with_each, hung, is_each, next, plate_next, named_from, Unhung, Wrong}
 use Rattle.live_cable.specs.declared.fault.ArgumentFault.{ArgumentFault}
 use Rattle.live_cable.specs.declared.fault.ArgumentFault.TheVariants.{NoMachine, Machine, Address, TooMany, Each, TooLarge, Memory}
 

@@ -1,5 +1,5 @@
 -- The reply of a drop, as a burst that is kept.
-use Rattle.std.proofs.Common.{◌≡◌, ℕ, ◌-◌, ◌≤◌, Bool, true, false, cond, ◌&&◌, List, [], ◌∷◌, ◌++◌, length, take, replicate, Some, None, Option, sym, refl, ap, ◌∙◌, arith, length-take}
+use Rattle.std.proofs.Common.{◌≡◌, ℕ, ◌-◌, ◌≤◌, true, cond, List, [], ◌∷◌, length, take, replicate, Some, None, Option, refl, ap, ◌∙◌, arith, length-take}
 use native.Mathlib.Nat.{sub-zero}
 use Rattle.std.proofs.lemmas.List.{take_at}
 use Rattle.std.specs.Option.{option_map}
@@ -11,7 +11,7 @@ use Rattle.mlan.specs.Checksum.{padded}
 use Rattle.segment.specs.Drops.{replies, only, drop_reply}
 use Rattle.segment.specs.Saying.{said_of}
 use Rattle.segment.specs.declared.segment.Said.{Said}
-use Rattle.segment.specs.declared.segment.Said.TheVariants.{Nothing, Reply, Clash}
+use Rattle.segment.specs.declared.segment.Said.TheVariants.{Reply}
 
 -- where one machine replied, the buffer begins with its reply
 shows_only : (rs : List (List ℕ)) (n : ℕ) (out : List ℕ) → Reply n ≡ said_of rs → out ≡ padded 64 (bytes_of (only rs)) → Some (take n out) ≡ only rs

@@ -1,4 +1,4 @@
-use Rattle.std.proofs.Common.{ℕ, List, sym, ap, ◌∙◌, arith, rules}
+use Rattle.std.proofs.Common.{ℕ, List, ap, ◌∙◌, arith}
 use Rattle.segment.specs.Drops.{drop_reply, shown}
 use Rattle.serving.proofs.Replying.{kept_reply}
 use Rattle.serving.proofs.reply_of.Goals as goal

@@ -1,10 +1,9 @@
-use Rattle.std.proofs.Common.{◌≡◌, ℕ, List, [], sym, refl, ap, ◌∙◌, subst, rules}
+use Rattle.std.proofs.Common.{List, sym, ap, ◌∙◌, subst}
 use Rattle.std.proofs.lemmas.Result.{err_from_is_err_and}
 use Rattle.rack.specs.Hanging.{racked}
 use Rattle.script.specs.Words.{words}
 use Rattle.blender.specs.Machines.{Model}
-use Rattle.live_cable.specs.Arguments.{Names, Named, with_each, hung, next, named_from}
-use Rattle.live_cable.specs.declared.fault.ArgumentFault.{ArgumentFault}
+use Rattle.live_cable.specs.Arguments.{Names, Named, with_each, next, named_from}
 use Rattle.live_cable.proofs.Naming.{at_each, no_plate, one_plate, is_wrong, not_hung}
 use Rattle.live_cable.proofs.arguments.named.Goals as goal
 
