@@ -1,4 +1,3 @@
 pub mod Fields
-pub mod GivesBack
 pub mod Keeping
 pub mod Telling
