@@ -1,5 +1,5 @@
 -- Machines stay kept: their numbers fit, and their settings are their kind's.
-use Rattle.std.proofs.Common.{◌≡◌, ℕ, ◌+◌, ◌-◌, ◌%◌, ◌^◌, ◌<◌, ◌≤◌, Bool, true, false, cond, ◌&&◌, ltb, leb, List, [], ◌∷◌, length, get_or, replicate, Some, None, Option, sym, refl, ap, ◌∙◌, subst, arith}
+use Rattle.std.proofs.Common.{◌≡◌, ℕ, ◌+◌, ◌-◌, ◌^◌, ◌<◌, ◌≤◌, Bool, true, false, cond, ltb, leb, List, [], ◌∷◌, replicate, Some, None, Option, refl, ap, arith}
 use lib.Bits.{bit_or}
 use lib.Pow.{pow-lt}
 use Rattle.std.proofs.lemmas.Nat.{or_lt}
@@ -7,16 +7,14 @@ use Rattle.std.proofs.lemmas.List.FromFn.{length-map-range_with_len}
 use Rattle.std.proofs.lemmas.List.{get_or-replicate}
 use Rattle.std.proofs.lemmas.Bool.{and_parts, leb-true}
 use Rattle.kinds.specs.Kinds.{KindFacts, differs_from_all, apart, places}
-use Rattle.terms.specs.declared.Function.{Function}
 use Rattle.terms.specs.declared.Function.TheVariants.{F82, F130}
 use Rattle.terms.specs.declared.Row.{Row}
-use Rattle.terms.specs.declared.Tag.{Tag}
 use Rattle.terms.specs.declared.Tag.TheVariants.{Recipe, WorkOrder, Operator}
 use Rattle.terms.specs.declared.Unit.{Unit as MassUnit}
 use Rattle.terms.proofs.EachPlace.{at_place}
 use Rattle.mlan.specs.Commands.{Said, get_totals, set_settings, get_settings, get_type, set_function, get_functions, get_version, get_units, set_units, set_keypad, set_tag, Reading, reads, faults, read_as}
 use Rattle.mlan.specs.Numbers.{Bytes}
-use Rattle.mlan.specs.Rows.{zero_row, greatest_type, greatest_setting, RowsPass}
+use Rattle.mlan.specs.Rows.{zero_row, RowsPass}
 use Rattle.mlan.proofs.Codes.{Fits, read_fits}
 use Rattle.blender.specs.Batches.{total, dose, with_dose, turn_bits, turned, filled_total, filled}
 use Rattle.blender.specs.Machines.{Model, new_model, lowers, obeyed, judged_after, concerns, after}

@@ -1,3 +1,4 @@
 pub mod Fields
+pub mod GivesBack
 pub mod Keeping
 pub mod Telling

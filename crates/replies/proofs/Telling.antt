@@ -1,12 +1,11 @@
 -- What a machine's replies tell.
-use Rattle.std.proofs.Common.{◌≡◌, ℕ, ◌+◌, ◌-◌, ◌*◌, ◌<◌, ◌≤◌, Bool, true, false, cond, ◌&&◌, ◌||◌, eqb, ltb, leb, ◌⊎◌, List, [], ◌∷◌, ◌++◌, length, get_or, take, drop, replicate, Some, None, Ok, Err, Option, Result, sym, refl, ap, ◌∙◌, subst, inl, inr, append_assoc, le_trans, arith, length-append}
+use Rattle.std.proofs.Common.{◌≡◌, ℕ, ◌+◌, ◌-◌, ◌*◌, ◌≤◌, Bool, true, false, cond, ◌&&◌, eqb, leb, ◌⊎◌, List, [], ◌∷◌, ◌++◌, length, replicate, Some, None, Ok, Err, Option, sym, refl, ap, ◌∙◌, subst, inl, inr, le_trans, arith, length-append}
 use Rattle.std.proofs.lemmas.List.{take_at}
 use Rattle.std.proofs.lemmas.Bool.{and_parts, and_from, le-leb, eq-eqb, eqb-true, le-ltb, leb-true}
 use Rattle.faults.specs.Faults.{carried}
 use Rattle.faults.specs.declared.BurstFault.TheVariants.{Short, Unsound}
-use Rattle.faults.specs.declared.MessageFault.{MessageFault}
 use Rattle.faults.specs.declared.MessageFault.TheVariants.{Burst, OtherAddress, Malformed}
-use Rattle.kinds.specs.Kinds.{KindFacts, four_facts, twelve_facts, all_characters, shows_row, shows_types}
+use Rattle.kinds.specs.Kinds.{KindFacts, four_facts, all_characters, shows_row, shows_types}
 use Rattle.terms.specs.Fields.{system, units_code, units_of}
 use Rattle.terms.specs.declared.Row.{Row}
 use Rattle.terms.specs.declared.Unit.{Unit as MassUnit}
@@ -15,14 +14,14 @@ use Rattle.terms.specs.declared.WeightUnits.{WeightUnits}
 use Rattle.terms.specs.declared.WeightUnits.TheVariants.{Pounds, Ounces, WholeGrams, Kilograms}
 use Rattle.mlan.specs.Checksum.{sealed, is_sound}
 use Rattle.mlan.specs.Commands.{within}
-use Rattle.mlan.specs.Frame.{Piece, data_of}
+use Rattle.mlan.specs.Frame.{Piece}
 use Rattle.mlan.specs.Numbers.{two, four, fours, two_at, four_at}
-use Rattle.mlan.specs.Rows.{rows_bytes, rows_fault, rows_in, zero_row, greatest_type, greatest_setting, RowsPass}
+use Rattle.mlan.specs.Rows.{rows_bytes, rows_fault, rows_in, greatest_type, greatest_setting, RowsPass}
 use Rattle.mlan.proofs.Numerals.{two_back, four_back}
 use Rattle.mlan.proofs.RowsBack as rows_back
 use Rattle.writing.proofs.ReadBack.{sealed_sound, sealed_data}
 use Rattle.blender.specs.Machines.{Model}
-use Rattle.replies.specs.Replies.{Told, totals, settings, system_type, functions, version, display_units, Telling, sized, field, unit_of, marked_of, is_software, software_of, totals_in, as_totals, shown_facts, shown_rows, unless_fault, behind_rows, as_settings, as_type, as_functions, as_version, as_units, by_code, judged, whole_frame, understood}
+use Rattle.replies.specs.Replies.{totals, settings, system_type, functions, version, display_units, Telling, sized, field, unit_of, marked_of, software_of, totals_in, as_totals, shown_facts, shown_rows, unless_fault, behind_rows, as_settings, as_type, as_functions, as_version, as_units, by_code, judged, whole_frame, understood}
 use Rattle.replies.specs.Machines.{rows_held, Kept, Showing}
 use Rattle.replies.specs.declared.reply.Asked.{Asked}
 use Rattle.replies.proofs.Fields.{two_behind, four_behind, length_fours, totals_back}
@@ -118,6 +117,9 @@ shown_pass k shows rows pass = record {
   settings = λ p from to. le_trans (pass.settings p from to) (rows_shown k p from to shows).1;
 }
 
+pub rows_told : (m : Model) → Kept m → rows_in (rows_held m) ≡ m.settings.rows
+rows_told m kept = rows_back.same_rows m.settings.rows 4 (omega arith) m.kind kept.rows_fit
+
 module _ (m : Model) (shows : Showing m.kind) (kept : Kept m) where
   -- totals
   abbrev counts : List ℕ
@@ -161,9 +163,6 @@ module _ (m : Model) (shows : Showing m.kind) (kept : Kept m) where
 
   no_fault : rows_fault (shown_facts software) (shown_rows settings_bytes) ≡ None
   no_fault = ap (rows_fault (shown_facts software)) part ∙ rows_back.no_rows_fault m.settings.rows 4 (omega arith) (shown_facts software) (shown_pass m.kind shows m.settings.rows kept.rows_fit)
-
-  pub rows_told : rows_in (rows_held m) ≡ m.settings.rows
-  rows_told = rows_back.same_rows m.settings.rows 4 (omega arith) m.kind kept.rows_fit
 
   abbrev told_settings : Piece → ℕ → ℕ → ℕ → Telling
   told_settings rows recipe operator order = Ok (settings m.unit m.mark software rows recipe operator order)

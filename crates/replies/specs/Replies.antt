@@ -1,5 +1,5 @@
 -- What a reply says, and which bursts are replies to a question.
-use Rattle.std.specs.Prelude.{ℕ, ◌+◌, ◌-◌, ◌*◌, Bool, true, false, cond, ◌||◌, List, [], ◌∷◌, length, take, drop, Some, None, Ok, Err, Option, Result, ◌==◌, nat_lt, slice_index}
+use Rattle.std.specs.Prelude.{ℕ, ◌+◌, ◌-◌, ◌*◌, Bool, true, false, cond, ◌||◌, List, length, take, drop, Some, None, Ok, Err, Option, Result, ◌==◌, nat_lt, slice_index}
 use Rattle.faults.specs.Faults.{carried}
 use Rattle.faults.specs.declared.BurstFault.{BurstFault}
 use Rattle.faults.specs.declared.BurstFault.TheVariants.{Nothing, Short, Unsound}
