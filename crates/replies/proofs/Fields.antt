@@ -3,7 +3,7 @@ use Rattle.std.proofs.Common.{◌≡◌, ℕ, zero, suc, ◌+◌, ◌-◌, ◌*�
 use Rattle.std.proofs.lemmas.List.{get_or-append_right}
 use Rattle.terms.specs.Places.{each_place}
 use Rattle.terms.proofs.EachPlace.{filled_all}
-use Rattle.mlan.specs.Numbers.{two, four, fours, two_at, four_at}
+use Rattle.mlan.specs.Numbers.{four, fours, two_at, four_at}
 use Rattle.mlan.proofs.Numerals.{four_back}
 
 module _ (front tail : List ℕ) (k : ℕ) (long : length front ≡ k) where

@@ -1,5 +1,5 @@
 -- Machines stay kept: their numbers fit, and their settings are their kind's.
-use Rattle.std.proofs.Common.{◌≡◌, ℕ, ◌+◌, ◌-◌, ◌%◌, ◌^◌, ◌<◌, ◌≤◌, Bool, true, false, cond, ◌&&◌, ltb, leb, List, [], ◌∷◌, length, get_or, replicate, Some, None, Option, sym, refl, ap, ◌∙◌, subst, arith}
+use Rattle.std.proofs.Common.{◌≡◌, ℕ, ◌+◌, ◌-◌, ◌^◌, ◌<◌, ◌≤◌, Bool, true, false, cond, ltb, leb, List, [], ◌∷◌, replicate, Some, None, Option, refl, ap, arith}
 use lib.Bits.{bit_or}
 use lib.Pow.{pow-lt}
 use Rattle.std.proofs.lemmas.Nat.{or_lt}
@@ -7,16 +7,14 @@ use Rattle.std.proofs.lemmas.List.FromFn.{length-map-range_with_len}
 use Rattle.std.proofs.lemmas.List.{get_or-replicate}
 use Rattle.std.proofs.lemmas.Bool.{and_parts, leb-true}
 use Rattle.kinds.specs.Kinds.{KindFacts, differs_from_all, apart, places}
-use Rattle.terms.specs.declared.Function.{Function}
 use Rattle.terms.specs.declared.Function.TheVariants.{F82, F130}
 use Rattle.terms.specs.declared.Row.{Row}
-use Rattle.terms.specs.declared.Tag.{Tag}
 use Rattle.terms.specs.declared.Tag.TheVariants.{Recipe, WorkOrder, Operator}
 use Rattle.terms.specs.declared.Unit.{Unit as MassUnit}
 use Rattle.terms.proofs.EachPlace.{at_place}
 use Rattle.mlan.specs.Commands.{Said, get_totals, set_settings, get_settings, get_type, set_function, get_functions, get_version, get_units, set_units, set_keypad, set_tag, Reading, reads, faults, read_as}
 use Rattle.mlan.specs.Numbers.{Bytes}
-use Rattle.mlan.specs.Rows.{zero_row, greatest_type, greatest_setting, RowsPass}
+use Rattle.mlan.specs.Rows.{zero_row, RowsPass}
 use Rattle.mlan.proofs.Codes.{Fits, read_fits}
 use Rattle.blender.specs.Batches.{total, dose, with_dose, turn_bits, turned, filled_total, filled}
 use Rattle.blender.specs.Machines.{Model, new_model, lowers, obeyed, judged_after, concerns, after}
@@ -32,7 +30,7 @@ zero_rows k = record {
 pub new_kept : (k : KindFacts) (a : ℕ) (u : MassUnit) → Kept (new_model k a u)
 new_kept k a u = record {
   twelve_totals = refl;
-  totals_fit = λ p from to. omega (arith, get_or-replicate 12 (p - 1) 0 0 (omega arith));
+  totals_fit = λ p from to. omega (arith, get_or-replicate {A = ℕ} 12 (p - 1) 0 0 (omega arith));
   cycles_fit = omega arith;
   flags_fit = omega arith;
   rows_fit = zero_rows k;
@@ -88,15 +86,127 @@ flags_after m s kept = go (lowers s)
     go false = kept.flags_fit
 
 obeyed_kept : (m : Model) (s : Said) → Fits m.kind s → Kept m → Kept (obeyed m s)
-obeyed_kept m (get_totals reset) fits kept = record { twelve_totals = kept.twelve_totals; totals_fit = kept.totals_fit; cycles_fit = kept.cycles_fit; flags_fit = flags_after m (get_totals reset) kept; rows_fit = kept.rows_fit; recipe_fits = kept.recipe_fits; operator_fits = kept.operator_fits; order_fits = kept.order_fits; f130_fits = kept.f130_fits; f82_fits = kept.f82_fits }
-obeyed_kept m (set_settings rows recipe operator order) fits kept = record { twelve_totals = kept.twelve_totals; totals_fit = kept.totals_fit; cycles_fit = kept.cycles_fit; flags_fit = kept.flags_fit; rows_fit = fits.0; recipe_fits = fits.1; operator_fits = fits.2; order_fits = fits.3; f130_fits = kept.f130_fits; f82_fits = kept.f82_fits }
-obeyed_kept m get_settings fits kept = Kept-same m kept
-obeyed_kept m get_type fits kept = Kept-same m kept
-obeyed_kept m (set_function F82 v) fits kept = ?
-obeyed_kept m (set_function F130 v) fits kept = ?
-obeyed_kept m get_functions fits kept = Kept-same m kept
-obeyed_kept m get_version fits kept = Kept-same m kept
-obeyed_kept m get_units fits kept = Kept-same m kept
-obeyed_kept m (set_units units) fits kept = ?
-obeyed_kept m (set_keypad flag) fits kept = ?
-obeyed_kept m (set_tag letters tag) fits kept = ?
+obeyed_kept m (get_totals reset) fits kept = record {
+  twelve_totals = kept.twelve_totals;
+  totals_fit = kept.totals_fit;
+  cycles_fit = kept.cycles_fit;
+  flags_fit = flags_after m (get_totals reset) kept;
+  rows_fit = kept.rows_fit;
+  recipe_fits = kept.recipe_fits;
+  operator_fits = kept.operator_fits;
+  order_fits = kept.order_fits;
+  f130_fits = kept.f130_fits;
+  f82_fits = kept.f82_fits;
+}
+obeyed_kept m (set_settings rows recipe operator order) fits kept = record {
+  twelve_totals = kept.twelve_totals;
+  totals_fit = kept.totals_fit;
+  cycles_fit = kept.cycles_fit;
+  flags_fit = kept.flags_fit;
+  rows_fit = fits.0;
+  recipe_fits = fits.1;
+  operator_fits = fits.2;
+  order_fits = fits.3;
+  f130_fits = kept.f130_fits;
+  f82_fits = kept.f82_fits;
+}
+obeyed_kept m get_settings fits kept = kept
+obeyed_kept m get_type fits kept = kept
+obeyed_kept m (set_function F82 v) fits kept = record {
+  twelve_totals = kept.twelve_totals;
+  totals_fit = kept.totals_fit;
+  cycles_fit = kept.cycles_fit;
+  flags_fit = kept.flags_fit;
+  rows_fit = kept.rows_fit;
+  recipe_fits = kept.recipe_fits;
+  operator_fits = kept.operator_fits;
+  order_fits = kept.order_fits;
+  f130_fits = kept.f130_fits;
+  f82_fits = fits;
+}
+obeyed_kept m (set_function F130 v) fits kept = record {
+  twelve_totals = kept.twelve_totals;
+  totals_fit = kept.totals_fit;
+  cycles_fit = kept.cycles_fit;
+  flags_fit = kept.flags_fit;
+  rows_fit = kept.rows_fit;
+  recipe_fits = kept.recipe_fits;
+  operator_fits = kept.operator_fits;
+  order_fits = kept.order_fits;
+  f130_fits = fits;
+  f82_fits = kept.f82_fits;
+}
+obeyed_kept m get_functions fits kept = kept
+obeyed_kept m get_version fits kept = kept
+obeyed_kept m get_units fits kept = kept
+obeyed_kept m (set_units units) fits kept = record {
+  twelve_totals = kept.twelve_totals;
+  totals_fit = kept.totals_fit;
+  cycles_fit = kept.cycles_fit;
+  flags_fit = kept.flags_fit;
+  rows_fit = kept.rows_fit;
+  recipe_fits = kept.recipe_fits;
+  operator_fits = kept.operator_fits;
+  order_fits = kept.order_fits;
+  f130_fits = kept.f130_fits;
+  f82_fits = kept.f82_fits;
+}
+obeyed_kept m (set_keypad flag) fits kept = record {
+  twelve_totals = kept.twelve_totals;
+  totals_fit = kept.totals_fit;
+  cycles_fit = kept.cycles_fit;
+  flags_fit = kept.flags_fit;
+  rows_fit = kept.rows_fit;
+  recipe_fits = kept.recipe_fits;
+  operator_fits = kept.operator_fits;
+  order_fits = kept.order_fits;
+  f130_fits = kept.f130_fits;
+  f82_fits = kept.f82_fits;
+}
+obeyed_kept m (set_tag letters (Recipe v)) fits kept = record {
+  twelve_totals = kept.twelve_totals;
+  totals_fit = kept.totals_fit;
+  cycles_fit = kept.cycles_fit;
+  flags_fit = kept.flags_fit;
+  rows_fit = kept.rows_fit;
+  recipe_fits = fits;
+  operator_fits = kept.operator_fits;
+  order_fits = kept.order_fits;
+  f130_fits = kept.f130_fits;
+  f82_fits = kept.f82_fits;
+}
+obeyed_kept m (set_tag letters (WorkOrder v)) fits kept = record {
+  twelve_totals = kept.twelve_totals;
+  totals_fit = kept.totals_fit;
+  cycles_fit = kept.cycles_fit;
+  flags_fit = kept.flags_fit;
+  rows_fit = kept.rows_fit;
+  recipe_fits = kept.recipe_fits;
+  operator_fits = kept.operator_fits;
+  order_fits = fits;
+  f130_fits = kept.f130_fits;
+  f82_fits = kept.f82_fits;
+}
+obeyed_kept m (set_tag letters (Operator v)) fits kept = record {
+  twelve_totals = kept.twelve_totals;
+  totals_fit = kept.totals_fit;
+  cycles_fit = kept.cycles_fit;
+  flags_fit = kept.flags_fit;
+  rows_fit = kept.rows_fit;
+  recipe_fits = kept.recipe_fits;
+  operator_fits = fits;
+  order_fits = kept.order_fits;
+  f130_fits = kept.f130_fits;
+  f82_fits = kept.f82_fits;
+}
+
+judged_kept : (m : Model) (r : Reading) → ((s : Said) → r ≡ reads s → Fits m.kind s) → Kept m → Kept (judged_after m r)
+judged_kept m (reads s) fits kept = obeyed_kept m s (fits s refl) kept
+judged_kept m (faults f) fits kept = kept
+
+pub burst_keeps : (m : Model) (b : List ℕ) → Bytes b → Kept m → Kept (after m b)
+burst_keeps m b bytes kept = go (concerns m b)
+  where
+    go : (heard : Bool) → Kept (cond heard (judged_after m (read_as m.kind b)) m)
+    go true = judged_kept m (read_as m.kind b) (read_fits m.kind b bytes) kept
+    go false = kept

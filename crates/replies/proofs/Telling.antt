@@ -1,12 +1,11 @@
 -- What a machine's replies tell.
-use Rattle.std.proofs.Common.{◌≡◌, ℕ, ◌+◌, ◌-◌, ◌*◌, ◌<◌, ◌≤◌, Bool, true, false, cond, ◌&&◌, ◌||◌, eqb, ltb, leb, ◌⊎◌, List, [], ◌∷◌, ◌++◌, length, get_or, take, drop, replicate, Some, None, Ok, Err, Option, Result, sym, refl, ap, ◌∙◌, subst, inl, inr, append_assoc, le_trans, arith, length-append}
+use Rattle.std.proofs.Common.{◌≡◌, ℕ, ◌+◌, ◌-◌, ◌*◌, ◌≤◌, Bool, true, false, cond, ◌&&◌, eqb, leb, ◌⊎◌, List, [], ◌∷◌, ◌++◌, length, replicate, Some, None, Ok, Err, Option, sym, refl, ap, ◌∙◌, subst, inl, inr, le_trans, arith, length-append}
 use Rattle.std.proofs.lemmas.List.{take_at}
 use Rattle.std.proofs.lemmas.Bool.{and_parts, and_from, le-leb, eq-eqb, eqb-true, le-ltb, leb-true}
 use Rattle.faults.specs.Faults.{carried}
 use Rattle.faults.specs.declared.BurstFault.TheVariants.{Short, Unsound}
-use Rattle.faults.specs.declared.MessageFault.{MessageFault}
 use Rattle.faults.specs.declared.MessageFault.TheVariants.{Burst, OtherAddress, Malformed}
-use Rattle.kinds.specs.Kinds.{KindFacts, four_facts, twelve_facts, all_characters, shows_row, shows_types}
+use Rattle.kinds.specs.Kinds.{KindFacts, four_facts, all_characters, shows_row, shows_types}
 use Rattle.terms.specs.Fields.{system, units_code, units_of}
 use Rattle.terms.specs.declared.Row.{Row}
 use Rattle.terms.specs.declared.Unit.{Unit as MassUnit}
@@ -15,15 +14,15 @@ use Rattle.terms.specs.declared.WeightUnits.{WeightUnits}
 use Rattle.terms.specs.declared.WeightUnits.TheVariants.{Pounds, Ounces, WholeGrams, Kilograms}
 use Rattle.mlan.specs.Checksum.{sealed, is_sound}
 use Rattle.mlan.specs.Commands.{within}
-use Rattle.mlan.specs.Frame.{Piece, whole_frame, data_of}
+use Rattle.mlan.specs.Frame.{Piece}
 use Rattle.mlan.specs.Numbers.{two, four, fours, two_at, four_at}
-use Rattle.mlan.specs.Rows.{rows_bytes, rows_fault, rows_in, zero_row, greatest_type, greatest_setting, RowsPass}
+use Rattle.mlan.specs.Rows.{rows_bytes, rows_fault, rows_in, greatest_type, greatest_setting, RowsPass}
 use Rattle.mlan.proofs.Numerals.{two_back, four_back}
 use Rattle.mlan.proofs.RowsBack as rows_back
 use Rattle.writing.proofs.ReadBack.{sealed_sound, sealed_data}
 use Rattle.blender.specs.Machines.{Model}
-use Rattle.replies.specs.Replies.{Told, totals, settings, system_type, functions, version, display_units, Telling, sized, field, unit_of, marked_of, is_software, software_of, totals_in, as_totals, shown_facts, shown_rows, unless_fault, behind_rows, as_settings, as_type, as_functions, as_version, as_units, by_code, judged, understood}
-use Rattle.replies.specs.Machines.{rows_held, Kept}
+use Rattle.replies.specs.Replies.{totals, settings, system_type, functions, version, display_units, Telling, sized, field, unit_of, marked_of, software_of, totals_in, as_totals, shown_facts, shown_rows, unless_fault, behind_rows, as_settings, as_type, as_functions, as_version, as_units, by_code, judged, whole_frame, understood}
+use Rattle.replies.specs.Machines.{rows_held, Kept, Showing}
 use Rattle.replies.specs.declared.reply.Asked.{Asked}
 use Rattle.replies.proofs.Fields.{two_behind, four_behind, length_fours, totals_back}
 
@@ -108,17 +107,20 @@ module _ (k : KindFacts) (p : ℕ) (from : 1 ≤ p) (to : p ≤ 12) where
   by_software n (inl e) = subst Fitting (sym e) with_four
   by_software n (inr e) = subst Fitting (sym e) with_twelve
 
-  rows_shown : Shown k.software
-  rows_shown = by_software k.software k.four_or_twelve (k.rows_shown p) (leb-true k.materials (shows_types k.software) k.types-shown)
+  rows_shown : Showing k → Shown k.software
+  rows_shown shows = by_software k.software k.four_or_twelve (shows.rows_shown p) (leb-true k.materials (shows_types k.software) shows.types_shown)
 
-shown_pass : (k : KindFacts) (rows : List Row) → RowsPass k rows → RowsPass (shown_facts k.software) rows
-shown_pass k rows pass = record {
+shown_pass : (k : KindFacts) → Showing k → (rows : List Row) → RowsPass k rows → RowsPass (shown_facts k.software) rows
+shown_pass k shows rows pass = record {
   twelve = pass.twelve;
-  types = λ p from to. le_trans (pass.types p from to) (rows_shown k p from to).0;
-  settings = λ p from to. le_trans (pass.settings p from to) (rows_shown k p from to).1;
+  types = λ p from to. le_trans (pass.types p from to) (rows_shown k p from to shows).0;
+  settings = λ p from to. le_trans (pass.settings p from to) (rows_shown k p from to shows).1;
 }
 
-module _ (m : Model) (kept : Kept m) where
+pub rows_told : (m : Model) → Kept m → rows_in (rows_held m) ≡ m.settings.rows
+rows_told m kept = rows_back.same_rows m.settings.rows 4 (omega arith) m.kind kept.rows_fit
+
+module _ (m : Model) (shows : Showing m.kind) (kept : Kept m) where
   -- totals
   abbrev counts : List ℕ
   counts = system m.unit false ∷ m.kind.software ∷ 0 ∷ 0 ∷ (two m.cycles ++ two m.flags)
@@ -160,10 +162,7 @@ module _ (m : Model) (kept : Kept m) where
   part = ap (λ (bs : List ℕ). record { at = 4; bytes = bs }) (take_at (rows_bytes m.settings.rows) tail 36 rows_long)
 
   no_fault : rows_fault (shown_facts software) (shown_rows settings_bytes) ≡ None
-  no_fault = ap (rows_fault (shown_facts software)) part ∙ rows_back.no_rows_fault m.settings.rows 4 (omega arith) (shown_facts software) (shown_pass m.kind m.settings.rows kept.rows_fit)
-
-  pub rows_told : rows_in (rows_held m) ≡ m.settings.rows
-  rows_told = rows_back.same_rows m.settings.rows 4 (omega arith) m.kind kept.rows_fit
+  no_fault = ap (rows_fault (shown_facts software)) part ∙ rows_back.no_rows_fault m.settings.rows 4 (omega arith) (shown_facts software) (shown_pass m.kind shows m.settings.rows kept.rows_fit)
 
   abbrev told_settings : Piece → ℕ → ℕ → ℕ → Telling
   told_settings rows recipe operator order = Ok (settings m.unit m.mark software rows recipe operator order)
@@ -194,9 +193,9 @@ module _ (m : Model) (kept : Kept m) where
       field_is 3 (within 12 m.settings.f130) m.settings.f130 _ (within_is 12 m.settings.f130 kept.f130_fits)
       ∙ field_is 5 (within 1 m.settings.f82) m.settings.f82 _ (within_is 1 m.settings.f82 kept.f82_fits)
 
-pub version_told : (k : KindFacts) → as_version k.version ≡ Ok (version (record { at = 2; bytes = k.version }))
-version_told k =
-    let w = and_parts (eqb (length k.version) 6) (all_characters k.version) k.version-printed in
+pub version_told : (k : KindFacts) → Showing k → as_version k.version ≡ Ok (version (record { at = 2; bytes = k.version }))
+version_told k shows =
+    let w = and_parts (eqb (length k.version) 6) (all_characters k.version) shows.version_printed in
     sized_right 6 k.version _ (eqb-true (length k.version) 6 w.0)
     ∙ ap (λ b. cond b (Ok (version (record { at = 2; bytes = k.version }))) (Err (Malformed 2))) w.1
 

@@ -1,5 +1,5 @@
 -- What a reply says, and which bursts are replies to a question.
-use Rattle.std.specs.Prelude.{ℕ, ◌+◌, ◌-◌, ◌*◌, Bool, true, false, cond, ◌||◌, List, [], ◌∷◌, length, take, drop, Some, None, Ok, Err, Option, Result, ◌==◌, nat_lt, slice_index}
+use Rattle.std.specs.Prelude.{ℕ, ◌+◌, ◌-◌, ◌*◌, Bool, true, false, cond, ◌||◌, List, length, take, drop, Some, None, Ok, Err, Option, Result, ◌==◌, nat_lt, slice_index}
 use Rattle.faults.specs.Faults.{carried}
 use Rattle.faults.specs.declared.BurstFault.{BurstFault}
 use Rattle.faults.specs.declared.BurstFault.TheVariants.{Nothing, Short, Unsound}
@@ -13,7 +13,7 @@ use Rattle.terms.specs.declared.Unit.TheVariants.{Tenths, Grams}
 use Rattle.terms.specs.declared.WeightUnits.{WeightUnits}
 use Rattle.mlan.specs.Checksum.{is_sound}
 use Rattle.mlan.specs.Commands.{within}
-use Rattle.mlan.specs.Frame.{Piece, Framing, whole_frame}
+use Rattle.mlan.specs.Frame.{Piece, Framing, part_of, code_of}
 use Rattle.mlan.specs.Numbers.{two_at, four_at}
 use Rattle.mlan.specs.Rows.{rows_fault}
 use Rattle.replies.specs.declared.reply.Asked.{Asked}
@@ -145,6 +145,10 @@ by_code asked f =
 
 abbrev pub judged : Asked → Framing → Telling
 judged asked f = cond (f.address == asked.address) (by_code asked f) (Err OtherAddress)
+
+-- the frame of a burst of at least three bytes
+abbrev pub whole_frame : List ℕ → Framing
+whole_frame burst = record { address = slice_index burst 0; code = code_of burst; between = part_of 2 (length burst - 3) burst; check = slice_index burst (length burst - 1) }
 
 -- what the line gave, as the frame of a sound burst
 abbrev pub received : Option (List ℕ) → Result Framing BurstFault

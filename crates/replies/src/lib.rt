@@ -2,5 +2,6 @@
 #![tactic(auto)]
 
 pub mod hearing;
+pub mod machines;
 mod read;
 pub mod reply;

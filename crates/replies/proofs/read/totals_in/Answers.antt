@@ -1,4 +1,4 @@
-use Rattle.std.proofs.Common.{◌≡◌, ℕ, ◌+◌, ◌*◌, sym, refl, ap, ◌∙◌, arith, rules}
+use Rattle.std.proofs.Common.{◌≡◌, ◌+◌, ◌*◌, refl, ap, ◌∙◌, arith, rules}
 use Rattle.terms.proofs.EachPlace.{filled_more, filled_all}
 use Rattle.mlan.specs.Numbers.{four_at}
 use Rattle.replies.specs.Replies.{totals_in}
