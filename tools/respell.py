@@ -13,11 +13,12 @@ import re
 import sys
 
 WORD = r"[A-Za-z_][\w']*(?:-[\w']+)*"
+APPENDED = re.compile(r"\b([a-z_]+(?:-[a-z]+)*)-\+\+(?!\+)")  # the lemma of a word at `++`
 HYPHEN = re.compile(r"[A-Za-z_][\w']*(?:-[\w']+)+")
 HEAD = re.compile(r"^\s*(?:(?:pub|abbrev|unfoldable|private)\s+)*((?:" + WORD + r"\s+)*" + WORD + r")\s+:\s")
 TYPE = re.compile(r"^\s*(?:pub\s+)?(?:record|data)\s+(" + WORD + r")\s")
 # heads of the answers and invariants that the kit asks for by name
-GOALS = re.compile(r"^(?:returns|invariant|decreases|ghost|in|if|loop|add-at|call|from)(?:-|$)")
+GOALS = re.compile(r"^(?:returns|invariant|decreases|ghost|in|if|loop|add_at|add-at|call|from)(?:[-_]|$)")
 
 
 def files(root, ends):
@@ -71,7 +72,8 @@ def turn_antt(text, names):
     lines = []
     for line in text.split("\n"):
         body = code(line, "--")
-        lines.append(turned(body, names) + turned(line[len(body):], names, quoted_only=True))
+        spelled_out = APPENDED.sub(lambda m: m.group(1).replace("-", "_") + "_append", body)
+        lines.append(turned(spelled_out, names) + turned(line[len(body) :], names, quoted_only=True))
     return "\n".join(lines)
 
 

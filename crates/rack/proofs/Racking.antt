@@ -13,7 +13,7 @@ use Rattle.segment.specs.Drops.{when_accepted, machine_answer, drop_answer, left
 use Rattle.segment.specs.Saying.{said_of, Fits, joined_said, joined_out}
 use Rattle.segment.specs.declared.segment.Said.{Said}
 use Rattle.segment.proofs.Joins.{none_there, batch_left, batch_right}
-use Rattle.segment.proofs.Says.{replies-++, shown-++, joins_said, joins_out, joins_fit, shows}
+use Rattle.segment.proofs.Says.{replies_append, shown_append, joins_said, joins_out, joins_fit, shows}
 use Rattle.rack.specs.Racks.{any_model, even_batched}
 use Rattle.rack.specs.declared.AnyMachine.{AnyMachine}
 use Rattle.rack.specs.declared.AnyMachine.TheVariants.{OfFour}
@@ -104,8 +104,8 @@ module _ (b : List ℕ) (old xs : List AnyMachine) (i : ℕ) (d : AnyMachine) (w
       let same = same_here inv.0 in
       let past = models (take i old) in
       let grown = one_more old i d within-old in
-      let heard : replies b (models (take (i + 1) old)) ≡ replies b past ++ replies b (m ∷ []) = ap (replies b) grown ∙ replies-++ b past (m ∷ []) in
-      let seen : shown b (models (take (i + 1) old)) ≡ shown b past ++ shown b (m ∷ []) = ap (shown b) grown ∙ shown-++ b past (m ∷ []) in
+      let heard : replies b (models (take (i + 1) old)) ≡ replies b past ++ replies b (m ∷ []) = ap (replies b) grown ∙ replies_append b past (m ∷ []) in
+      let seen : shown b (models (take (i + 1) old)) ≡ shown b past ++ shown b (m ∷ []) = ap (shown b) grown ∙ shown_append b past (m ∷ []) in
       let put : models (take (i + 1) (set xs i v)) ≡ models (take i xs) ++ any_model v ∷ [] = ap models (take_more_set xs i v within) ∙ map-append any_model (take i xs) (v ∷ []) in
       let new : any_model v ∷ [] ≡ shown b (m ∷ []) = becomes ∙ ap (λ (x : AnyMachine). shown b (any_model x ∷ [])) same.0 in
       let word : next ≡ said_of (replies b (m ∷ [])) = says ∙ ap (λ (x : AnyMachine). said_of (replies b (any_model x ∷ []))) same.0 in

@@ -7,17 +7,17 @@ use Rattle.segment.specs.Saying.{said_of, Fits, joined_said, joined_out}
 use Rattle.segment.specs.declared.segment.Said.{Said}
 use Rattle.segment.specs.declared.segment.Said.TheVariants.{Nothing, Reply, Clash}
 
-with_reply-++ : (o : Option (List ℕ)) (rs ss : List (List ℕ)) → with_reply o (rs ++ ss) ≡ with_reply o rs ++ ss
-with_reply-++ None rs ss = refl
-with_reply-++ (Some r) rs ss = refl
+with_reply_append : (o : Option (List ℕ)) (rs ss : List (List ℕ)) → with_reply o (rs ++ ss) ≡ with_reply o rs ++ ss
+with_reply_append None rs ss = refl
+with_reply_append (Some r) rs ss = refl
 
-pub replies-++ : (b : List ℕ) (xs ys : List Model) → replies b (xs ++ ys) ≡ replies b xs ++ replies b ys
-replies-++ b [] ys = refl
-replies-++ b (m ∷ xs) ys = ap (with_reply (reply m b)) (replies-++ b xs ys) ∙ with_reply-++ (reply m b) (replies b xs) (replies b ys)
+pub replies_append : (b : List ℕ) (xs ys : List Model) → replies b (xs ++ ys) ≡ replies b xs ++ replies b ys
+replies_append b [] ys = refl
+replies_append b (m ∷ xs) ys = ap (with_reply (reply m b)) (replies_append b xs ys) ∙ with_reply_append (reply m b) (replies b xs) (replies b ys)
 
-pub shown-++ : (b : List ℕ) (xs ys : List Model) → shown b (xs ++ ys) ≡ shown b xs ++ shown b ys
-shown-++ b [] ys = refl
-shown-++ b (m ∷ xs) ys = ap (λ (ms : List Model). after m b ∷ ms) (shown-++ b xs ys)
+pub shown_append : (b : List ℕ) (xs ys : List Model) → shown b (xs ++ ys) ≡ shown b xs ++ shown b ys
+shown_append b [] ys = refl
+shown_append b (m ∷ xs) ys = ap (λ (ms : List Model). after m b ∷ ms) (shown_append b xs ys)
 
 pub joins_said : (rs ss : List (List ℕ)) → joined_said (said_of rs) (said_of ss) ≡ said_of (rs ++ ss)
 joins_said [] [] = refl
@@ -59,14 +59,14 @@ module _ (b : List ℕ) (xs ys : List Model) {left right : Said} (l : left ≡ s
   pub both_said : {s : Said} → s ≡ joined_said left right → s ≡ said_of (replies b (xs ++ ys))
   both_said j =
       j ∙ ap (λ s. joined_said s right) l ∙ ap (joined_said (said_of (replies b xs))) r
-      ∙ joins_said (replies b xs) (replies b ys) ∙ ap said_of (sym (replies-++ b xs ys))
+      ∙ joins_said (replies b xs) (replies b ys) ∙ ap said_of (sym (replies_append b xs ys))
 
   pub both_out : {out next so_far : List ℕ} → out ≡ joined_out left right next so_far → so_far ≡ shows (replies b xs) → next ≡ shows (replies b ys) → out ≡ shows (replies b (xs ++ ys))
   both_out {next = next} {so_far = so_far} j from to =
       j ∙ ap (λ s. joined_out s right next so_far) l ∙ ap (λ s. joined_out (said_of (replies b xs)) s next so_far) r
       ∙ ap (λ o. joined_out (said_of (replies b xs)) (said_of (replies b ys)) o so_far) to
       ∙ ap (λ o. joined_out (said_of (replies b xs)) (said_of (replies b ys)) (shows (replies b ys)) o) from
-      ∙ joins_out (replies b xs) (replies b ys) ∙ ap shows (sym (replies-++ b xs ys))
+      ∙ joins_out (replies b xs) (replies b ys) ∙ ap shows (sym (replies_append b xs ys))
 
 pub both_shown : (b : List ℕ) (xs ys : List Model) {vs ws : List Model} → vs ≡ shown b xs → ws ≡ shown b ys → vs ++ ws ≡ shown b (xs ++ ys)
-both_shown b xs ys {vs = vs} from to = ap (λ (us : List Model). vs ++ us) to ∙ ap (λ (us : List Model). us ++ shown b ys) from ∙ sym (shown-++ b xs ys)
+both_shown b xs ys {vs = vs} from to = ap (λ (us : List Model). vs ++ us) to ∙ ap (λ (us : List Model). us ++ shown b ys) from ∙ sym (shown_append b xs ys)
