@@ -1,7 +1,7 @@
 -- A rack's machines, one after the other.
 use Rattle.std.proofs.Common.{◌≡◌, ℕ, ◌+◌, ◌<◌, Bool, true, false, cond, eqb, List, [], ◌∷◌, ◌++◌, map, length, get_or, take, drop, set, Some, None, Err, Result, sym, ap, ◌∙◌, subst, add-one, arith, drop-cons, drop-set-lt, eq-eqb, ne_eqb}
-use mathlib.Core.List.{map-append}
-use lib.Seq.{set_split, set-get_or}
+use Rattle.std.proofs.lemmas.List.{map-append}
+use Rattle.std.proofs.lemmas.List.{set_split, set-get_or}
 use Rattle.std.proofs.lemmas.List.{take_more, take_more_set}
 use Rattle.terms.specs.Addresses.{is_address}
 use Rattle.terms.specs.declared.Refusal.{Refusal}

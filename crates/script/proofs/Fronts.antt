@@ -1,7 +1,7 @@
 -- Words, by the runs at the front of a line.
 use Rattle.std.proofs.Common.{◌≡◌, ℕ, zero, suc, ◌+◌, ◌-◌, ◌<◌, ◌≤◌, Bool, true, false, cond, List, [], ◌∷◌, length, get_or, take, drop, sym, refl, ap, ◌∙◌, arith, length-drop}
-use mathlib.Core.Bool.{beq}
-use native.Mathlib.Nat.{sub-zero}
+use Rattle.std.proofs.Math.Bool.{beq}
+use Rattle.std.proofs.Math.Nat.{sub-zero}
 use Rattle.std.proofs.lemmas.List.{drop_more, drop_all, take_rest}
 use Rattle.std.proofs.lemmas.Bool.{false≢true}
 use Rattle.script.specs.Words.{is_blank, Front, front, with_run, all_words, words, run_length}

@@ -1,6 +1,6 @@
 -- The reply of a drop, as a burst that is kept.
 use Rattle.std.proofs.Common.{◌≡◌, ℕ, ◌-◌, ◌≤◌, true, cond, List, [], ◌∷◌, length, take, replicate, Some, None, Option, refl, ap, ◌∙◌, arith, length-take}
-use native.Mathlib.Nat.{sub-zero}
+use Rattle.std.proofs.Math.Nat.{sub-zero}
 use Rattle.std.proofs.lemmas.List.{take_at}
 use Rattle.std.specs.Option.{option_map}
 use Rattle.blender.specs.Machines.{Model, bytes_of}

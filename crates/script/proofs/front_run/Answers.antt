@@ -1,5 +1,5 @@
 use Rattle.std.proofs.Common.{sym, ap, ◌∙◌, arith}
-use mathlib.Core.Bool.{beq}
+use Rattle.std.proofs.Math.Bool.{beq}
 use Rattle.std.proofs.lemmas.Bool.{not-true, not-false}
 use Rattle.script.proofs.Fronts.{run_more, run_here, run_end}
 use Rattle.script.proofs.front_run.Goals as goal

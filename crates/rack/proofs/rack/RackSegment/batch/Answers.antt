@@ -1,5 +1,5 @@
 use Rattle.std.proofs.Common.{◌≡◌, ◌+◌, ◌<◌, ◌≤◌, List, length, get_or, take, set, Err, sym, ap, ◌∙◌, arith, length-set}
-use lib.Seq.{set-get_or}
+use Rattle.std.proofs.lemmas.List.{set-get_or}
 use Rattle.std.proofs.lemmas.List.{take_at, take_all}
 use Rattle.terms.specs.declared.Refusal.TheVariants.{NoMachine}
 use Rattle.segment.specs.Drops.{drop_answer, drop_batched}
