@@ -2,7 +2,7 @@
 use Rattle.std.proofs.Common.{◌≡◌, ℕ, zero, suc, ◌+◌, ◌-◌, ◌<◌, ◌≤◌, Bool, true, false, cond, eqb, leb, List, [], ◌∷◌, length, get_or, take, drop, Some, None, Ok, Err, Option, Result, sym, refl, subst, arith, get_or-drop}
 use Rattle.std.proofs.lemmas.Bool.{eqb-true, leb-true}
 use Rattle.kinds.specs.Kinds.{KindFacts}
-use Rattle.terms.specs.Fields.{units_of, function_of, function_limit, is_pair, tag_of}
+use Rattle.terms.specs.Fields.{units_of, function_of, function_limit, tag_of}
 use Rattle.terms.specs.declared.Function.{Function}
 use Rattle.terms.specs.declared.Tag.{Tag}
 use Rattle.terms.specs.declared.Tag.TheVariants.{Recipe, WorkOrder, Operator}
@@ -162,7 +162,7 @@ limited limit v t tag = go (leb v limit) refl
     go false f e = let z : ◌≡◌ {A = ℕ} 0 1 = cc in absurd (omega arith)
 
 tag_fits : (letters : List ℕ) (v : ℕ) (tag : Tag) → tag_of letters v ≡ Ok tag → TagFits tag
-tag_fits letters v tag = by_letters (is_pair 82 67 letters) (is_pair 87 79 letters) (is_pair 79 80 letters)
+tag_fits letters v tag = by_letters _ _ _
   where
     by_letters : (rc wo op : Bool) → cond rc (cond (leb v 65535) (Ok (Recipe v)) (Err Value)) (cond wo (cond (leb v 999999) (Ok (WorkOrder v)) (Err Value)) (cond op (cond (leb v 999) (Ok (Operator v)) (Err Value)) (Err Letters))) ≡ Ok tag → TagFits tag
     by_letters true wo op e = let w = limited 65535 v Recipe tag e in subst TagFits (sym w.1) (omega (arith, w.0))

@@ -4,7 +4,6 @@
 
 ghost use Rattle.std.specs.Prelude.{◌≡◌, ℕ, ◌<◌, ◌≤◌, List, length, Option, MatchResult};
 ghost use Rattle.std.specs.Option.{option_map};
-ghost use Rattle.terms.specs.declared.Refusal.TheVariants.{ShortBuffer};
 ghost use Rattle.blender.specs.Machines.{bytes_of};
 ghost use Rattle.cable.specs.Bursts.{burst_bytes};
 ghost use Rattle.mlan.specs.Checksum.{padded};
@@ -12,12 +11,11 @@ ghost use Rattle.segment.specs.Drops.{drop_reply, shown};
 ghost use Rattle.serving.specs.Serving.{Served, carried_reply, carried_shown};
 
 use cable::Way;
-use cable::buffer::fill;
+use cable::buffer::{BufferRefusal, fill};
 use cable::burst::Burst;
 use cable::line::{Line, taken};
 use cable::pair::Pair;
 use segment::segment::{Said, Segment};
-use terms::Refusal;
 
 // What a serving took from the line, and the reply that it put.
 #[derive(Clone, Copy)]
@@ -59,15 +57,15 @@ pub fn serve<L: Line, D: Segment>(
     line: &mut L,
     machines: &mut D,
     buffer: &mut [u8],
-) -> Result<usize, Refusal>
+) -> Result<usize, BufferRefusal>
     ensures { MatchResult result
         (λ n. (64 ≤ length buffer.old)
         × ((taken : Option (List ℕ)) × (reply : Option (List ℕ)) × (n ≡ length (bytes_of reply)) × (buffer.new ≡ padded (length buffer.old) (bytes_of reply))
         × Served L.Line.moves line.old line.new (D.Segment.machines machines.old) (D.Segment.machines machines.new) taken reply))
-        (λ f. (f ≡ ShortBuffer) × (length buffer.old < 64) × (buffer.new ≡ buffer.old) × (line.new ≡ line.old) × (machines.new ≡ machines.old)) }
+        (λ f. (f ≡ BufferRefusal.ShortBuffer) × (length buffer.old < 64) × (buffer.new ≡ buffer.old) × (line.new ≡ line.old) × (machines.new ≡ machines.old)) }
 {
     if buffer.len() < 64 {
-        return Err(Refusal::ShortBuffer);
+        return Err(BufferRefusal::ShortBuffer);
     }
     let done = exchanged(line, machines);
     fill(buffer, done.reply)

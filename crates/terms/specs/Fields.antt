@@ -49,7 +49,7 @@ tag_value (Recipe v) = v
 tag_value (WorkOrder v) = v
 tag_value (Operator v) = v
 
-abbrev pub is_pair : ℕ → ℕ → List ℕ → Bool
+abbrev is_pair : ℕ → ℕ → List ℕ → Bool
 is_pair x y [] = false
 is_pair x y (a ∷ []) = false
 is_pair x y (a ∷ b ∷ []) = a == x && b == y

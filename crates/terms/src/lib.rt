@@ -147,8 +147,6 @@ pub struct Row {
 // Why a call is refused that its caller could have made rightly, by the refusal's number.
 #[derive(Clone, Copy)]
 pub enum Refusal {
-    // a buffer of fewer than 64 bytes
-    ShortBuffer = 1,
     // an address outside 1 to 254
     NoAddress = 2,
     // data out of its range
@@ -166,7 +164,6 @@ impl Refusal {
         ensures { result ≡ number_of self }
     {
         match self {
-            Refusal::ShortBuffer => 1,
             Refusal::NoAddress => 2,
             Refusal::BadData => 4,
             Refusal::NoMachine => 8,
