@@ -1,3 +1,6 @@
+ghost use Rattle.std.specs.Prelude.{◌≡◌, Some};
+ghost use Rattle.live_cable.specs.FaultTexts.{fault_text};
+
 use std::fmt;
 
 // Why a command line names no machines to play.
@@ -20,7 +23,9 @@ pub enum ArgumentFault {
 }
 
 impl ArgumentFault {
-    fn text(self) -> &'static str {
+    fn text(self) -> &'static str
+        ensures { result.now ≡ fault_text self }
+    {
         match self {
             ArgumentFault::NoMachine => "no machine is named",
             ArgumentFault::Machine => "a machine is not understood",
@@ -34,6 +39,8 @@ impl ArgumentFault {
 }
 
 impl fmt::Display for ArgumentFault {
+    ghost output = { λ f. Some (fault_text f) };
+
     fn fmt<W: fmt::Write>(&self, f: &mut fmt::Formatter<W>) -> fmt::Result {
         f.write_str(self.text())
     }
