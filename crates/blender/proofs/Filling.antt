@@ -1,20 +1,14 @@
 -- A batch, one component after the other.
-use Rattle.std.proofs.Common.{◌≡◌, ℕ, zero, suc, ◌+◌, ◌-◌, ◌%◌, ◌<◌, ◌≤◌, true, false, cond, eqb, ◌⊎◌, List, [], ◌∷◌, length, get_or, take, drop, set, Some, None, sym, refl, ap, ◌∙◌, inl, inr, add-one, arith, length-set}
+use Rattle.std.proofs.Common.{◌≡◌, ℕ, zero, suc, ◌+◌, ◌-◌, ◌%◌, ◌<◌, ◌≤◌, true, cond, eqb, ◌⊎◌, List, [], ◌∷◌, length, get_or, take, drop, set, Some, None, sym, refl, ap, ◌∙◌, inl, inr, add-one, arith, length-set}
 use Rattle.std.specs.Int.Bits.{bit_or}
-use Rattle.std.proofs.lemmas.List.{at_drop_more, drop_more, drop_all, take_all, get_or-set_same, get_or-set_other}
-use Rattle.std.proofs.lemmas.Bool.{le-leb, lt-leb, eq-eqb, ne_eqb, cases_eq}
+use Rattle.std.proofs.lemmas.List.{drop_more, drop_all, take_all, get_or-set_same, get_or-set_other}
+use Rattle.std.proofs.lemmas.Bool.{eq-eqb, ne_eqb, cases_eq}
 use Rattle.kinds.specs.Kinds.{apart}
 use Rattle.kinds.proofs.Components.{within_twelve, not_among, differs_later}
 use Rattle.terms.specs.Places.{each_place}
 use Rattle.terms.proofs.EachPlace.{filled_all}
 use Rattle.blender.specs.Machines.{Model}
-use Rattle.blender.specs.Batches.{total, dose, with_dose, turn_bits, turned, all_within}
-
-pub within_more : (ns : List ℕ) (i : ℕ) → i < length ns → get_or ns i 0 ≤ 1000000 → all_within (drop i ns) ≡ all_within (drop (i + 1) ns)
-within_more ns i h small = at_drop_more all_within ns i 0 h ∙ ap (λ b. cond b (all_within (drop (i + 1) ns)) false) (le-leb (get_or ns i 0) 1000000 small)
-
-pub too_large : (ns : List ℕ) (i : ℕ) → i < length ns → 1000000 < get_or ns i 0 → all_within (drop i ns) ≡ false
-too_large ns i h large = at_drop_more all_within ns i 0 h ∙ ap (λ b. cond b (all_within (drop (i + 1) ns)) false) (lt-leb (get_or ns i 0) 1000000 large)
+use Rattle.blender.specs.Batches.{total, dose, with_dose, turn_bits, turned}
 
 -- the places of the components before one do not have its dose
 none_before : (qs ns : List ℕ) (i : ℕ) → i < length qs → apart qs ≡ true → dose (take i qs) (take i ns) (get_or qs i 0) ≡ None

@@ -1,5 +1,6 @@
 -- A batch: an amount for each component of a machine.
-use Rattle.std.specs.Prelude.{ℕ, ◌+◌, ◌-◌, ◌%◌, ◌^◌, Bool, true, false, cond, List, [], ◌∷◌, length, Some, None, Ok, Err, Option, Result, ◌==◌, bit_or, nat_le, nat_lt, slice_index}
+use Rattle.std.specs.Prelude.{ℕ, ◌+◌, ◌-◌, ◌%◌, ◌^◌, Bool, true, cond, List, [], ◌∷◌, length, Some, None, Ok, Err, Option, Result, ◌==◌, bit_or, nat_le, nat_lt, slice_index}
+use Rattle.std.specs.List.{list_all}
 use Rattle.kinds.specs.Kinds.{places}
 use Rattle.terms.specs.Addresses.{is_address}
 use Rattle.terms.specs.Places.{each_place}
@@ -38,21 +39,16 @@ filled_total m amounts p = with_dose (total m p) (dose (places m.kind) amounts p
 
 unfoldable pub filled : Model → List ℕ → Model
 filled m amounts =
-    record {
-      kind = m.kind;
-      address = m.address;
-      unit = m.unit;
+    record m {
       totals = each_place (filled_total m amounts);
       cycles = (m.cycles + 1) % 65536;
       flags = turned m (places m.kind) amounts m.flags;
       mark = true;
-      settings = m.settings;
     }
 
 -- each amount is 0 to 1,000,000
 abbrev pub all_within : List ℕ → Bool
-all_within [] = true
-all_within (n ∷ ns) = cond (nat_le n 1000000) (all_within ns) false
+all_within ns = list_all (λ n. nat_le n 1000000) ns
 
 -- whether a machine takes these amounts
 abbrev pub amounts_answer : Model → List ℕ → Result (Unit {0}) Refusal
@@ -64,7 +60,7 @@ abbrev pub batch_answer : ℕ → List ℕ → Model → Result (Unit {0}) Refus
 batch_answer a amounts m = cond (is_address a) (cond (a == m.address) (amounts_answer m amounts) (Err NoMachine)) (Err NoAddress)
 
 -- a refusal changes nothing
-abbrev pub if_accepted : Result (Unit {0}) Refusal → Model → Model → Model
+abbrev pub if_accepted : {X : Type 0} → Result (Unit {0}) Refusal → X → X → X
 if_accepted (Ok x) new old = new
 if_accepted (Err refusal) new old = old
 

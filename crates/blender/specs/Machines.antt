@@ -1,8 +1,11 @@
 -- A machine: what it is, what it replies to a burst, and what it is afterwards.
 use Rattle.std.specs.Prelude.{ℕ, Bool, false, cond, ◌||◌, List, [], ◌∷◌, replicate, Some, None, Option, ◌==◌}
 use Rattle.kinds.specs.Kinds.{KindFacts}
+use Rattle.terms.specs.Addresses.{number}
 use Rattle.terms.specs.declared.Function.{Function}
 use Rattle.terms.specs.declared.Function.TheVariants.{F82, F130}
+use Rattle.terms.specs.declared.Row.{Row}
+use Rattle.terms.specs.declared.Sheet.{Sheet}
 use Rattle.terms.specs.declared.Tag.{Tag}
 use Rattle.terms.specs.declared.Tag.TheVariants.{Recipe, WorkOrder, Operator}
 use Rattle.terms.specs.declared.Unit.{Unit as MassUnit}
@@ -27,15 +30,15 @@ pub record Model : Type 0 where
   pub mark : Bool
   pub settings : Settings
 
-abbrev pub model : {K : Type 0} → KindFacts → Machine K → Model
+abbrev pub model : {K : Type 0} {g : _} → KindFacts → Machine K g → Model
 model k m =
     record {
       kind = k;
-      address = m.address;
+      address = number m.address;
       unit = m.unit;
-      totals = m.totals;
-      cycles = m.cycles;
-      flags = m.flags;
+      totals = m.counts.totals;
+      cycles = m.counts.cycles;
+      flags = m.counts.flags;
       mark = m.mark;
       settings = m.settings;
     }
@@ -44,10 +47,7 @@ model k m =
 abbrev pub new_settings : Settings
 new_settings =
     record {
-      rows = replicate 12 zero_row;
-      recipe = 0;
-      operator = 0;
-      order = 0;
+      sheet = record { rows = replicate 12 zero_row; recipe = 0; operator = 0; order = 0 };
       f82 = 0;
       f130 = 0;
       units = Pounds;
@@ -70,9 +70,9 @@ new_model k a u =
 
 -- what a machine answers to a command of its kind
 abbrev pub answer_of : Model → Said → Answer
-answer_of m (get_totals reset) = Totals reset m.unit m.kind.software m.cycles m.flags m.totals
+answer_of m (get_totals reset) = Totals reset m.unit m.kind.software (record { totals = m.totals; cycles = m.cycles; flags = m.flags })
 answer_of m (set_settings rows recipe operator order) = Ack
-answer_of m get_settings = SettingsAnswer m.unit m.mark m.kind.software m.settings.rows m.settings.recipe m.settings.operator m.settings.order
+answer_of m get_settings = SettingsAnswer m.unit m.mark m.kind.software m.settings.sheet
 answer_of m get_type = SystemType m.unit m.kind.software
 answer_of m (set_function function value) = Ack
 answer_of m get_functions = Functions m.settings.f130 m.settings.f82
@@ -84,26 +84,26 @@ answer_of m (set_tag letters tag) = Ack
 
 -- a command that sets something stores its fields; the others leave the settings as they are
 abbrev with_function : Settings → Function → ℕ → Settings
-with_function s F82 v = record { rows = s.rows; recipe = s.recipe; operator = s.operator; order = s.order; f82 = v; f130 = s.f130; units = s.units; keypad = s.keypad }
-with_function s F130 v = record { rows = s.rows; recipe = s.recipe; operator = s.operator; order = s.order; f82 = s.f82; f130 = v; units = s.units; keypad = s.keypad }
+with_function s F82 v = record s { f82 = v }
+with_function s F130 v = record s { f130 = v }
 
-abbrev with_tag : Settings → Tag → Settings
-with_tag s (Recipe v) = record { rows = s.rows; recipe = v; operator = s.operator; order = s.order; f82 = s.f82; f130 = s.f130; units = s.units; keypad = s.keypad }
-with_tag s (WorkOrder v) = record { rows = s.rows; recipe = s.recipe; operator = s.operator; order = v; f82 = s.f82; f130 = s.f130; units = s.units; keypad = s.keypad }
-with_tag s (Operator v) = record { rows = s.rows; recipe = s.recipe; operator = v; order = s.order; f82 = s.f82; f130 = s.f130; units = s.units; keypad = s.keypad }
+abbrev with_tag : Sheet (List Row) → Tag → Sheet (List Row)
+with_tag s (Recipe v) = record s { recipe = v }
+with_tag s (WorkOrder v) = record s { order = v }
+with_tag s (Operator v) = record s { operator = v }
 
 abbrev pub stored : Settings → Said → Settings
 stored s (get_totals reset) = s
-stored s (set_settings rows recipe operator order) = record { rows = rows_in rows; recipe = recipe; operator = operator; order = order; f82 = s.f82; f130 = s.f130; units = s.units; keypad = s.keypad }
+stored s (set_settings rows recipe operator order) = record s { sheet = record { rows = rows_in rows; recipe = recipe; operator = operator; order = order } }
 stored s get_settings = s
 stored s get_type = s
 stored s (set_function function value) = with_function s function value
 stored s get_functions = s
 stored s get_version = s
 stored s get_units = s
-stored s (set_units units) = record { rows = s.rows; recipe = s.recipe; operator = s.operator; order = s.order; f82 = s.f82; f130 = s.f130; units = units; keypad = s.keypad }
-stored s (set_keypad flag) = record { rows = s.rows; recipe = s.recipe; operator = s.operator; order = s.order; f82 = s.f82; f130 = s.f130; units = s.units; keypad = flag }
-stored s (set_tag letters tag) = with_tag s tag
+stored s (set_units units) = record s { units = units }
+stored s (set_keypad flag) = record s { keypad = flag }
+stored s (set_tag letters tag) = record s { sheet = with_tag s.sheet tag }
 
 -- code 16 lowers the mark and the flags, once it has read
 abbrev pub lowers : Said → Bool
@@ -120,17 +120,7 @@ lowers (set_keypad flag) = false
 lowers (set_tag letters tag) = false
 
 abbrev pub obeyed : Model → Said → Model
-obeyed m said =
-    record {
-      kind = m.kind;
-      address = m.address;
-      unit = m.unit;
-      totals = m.totals;
-      cycles = m.cycles;
-      flags = cond (lowers said) 0 m.flags;
-      mark = cond (lowers said) false m.mark;
-      settings = stored m.settings said;
-    }
+obeyed m said = record m { flags = cond (lowers said) 0 m.flags; mark = cond (lowers said) false m.mark; settings = stored m.settings said }
 
 -- a burst that is no command of the kind gets NAK and changes nothing
 abbrev pub judged_answer : Model → Reading → Answer
@@ -152,8 +142,3 @@ reply m burst = cond (concerns m burst) (Some (answer_bytes m.address (judged_an
 
 abbrev pub after : Model → List ℕ → Model
 after m burst = cond (concerns m burst) (judged_after m (read_as m.kind burst)) m
-
--- no reply has no bytes
-abbrev pub bytes_of : Option (List ℕ) → List ℕ
-bytes_of None = []
-bytes_of (Some bytes) = bytes

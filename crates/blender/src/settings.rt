@@ -1,14 +1,34 @@
-use terms::{Row, WeightUnits};
+ghost use Rattle.std.specs.Prelude.{◌≡◌};
+ghost use Rattle.blender.specs.Machines.{new_settings};
+
+use terms::{Row, Sheet, WeightUnits};
 
 // What commands set in a machine.
-#[derive(Clone, Copy)]
+#[derive(Clone, Copy, Debug, PartialEq, Eq)]
 pub struct Settings {
-    pub rows: [Row; 12],
-    pub recipe: u16,
-    pub operator: u16,
-    pub order: u32,
+    pub sheet: Sheet<[Row; 12]>,
     pub f82: u8,
     pub f130: u8,
     pub units: WeightUnits,
     pub keypad: bool,
+}
+
+impl Settings {
+    // Zero everywhere.
+    pub(crate) fn new() -> Settings
+        ensures { result ≡ new_settings }
+    {
+        Settings {
+            sheet: Sheet {
+                rows: [Row::default(); 12],
+                recipe: 0,
+                operator: 0,
+                order: 0,
+            },
+            f82: 0,
+            f130: 0,
+            units: WeightUnits::Pounds,
+            keypad: false,
+        }
+    }
 }

@@ -1,28 +1,12 @@
--- What the pair and the carrier hold, and their rules of putting.
-use Rattle.std.specs.Prelude.{◌≡◌, ℕ, cond, List, [], ◌∷◌, ◌++◌, map, length, take, Some, None, Option, nat_lt}
-use Rattle.cable.specs.Bursts.{is_burst, burst_bytes}
+-- What a line holds on one way, the rules of putting, and what a line does that keeps to one.
+use Rattle.std.specs.Prelude.{◌≡◌, ℕ, true, cond, List, [], ◌∷◌, ◌++◌, length, Some, None, Option, IfSome, nat_lt}
+use Rattle.mlan.specs.Bursts.{is_burst}
 use Rattle.cable.specs.Pools.{other, Motion, puts, takes}
 use Rattle.cable.specs.declared.Way.{Way}
-use Rattle.cable.specs.declared.Way.TheVariants.{Down, Up}
-use Rattle.cable.specs.declared.burst.Burst.{Burst}
-use Rattle.cable.specs.declared.queue.Queue.{Queue}
-use Rattle.cable.specs.declared.pair.Pair.{Pair}
-use Rattle.cable.specs.declared.carrier.Carrier.{Carrier}
 
-abbrev pub slot_pool : Option Burst → List (List ℕ)
+abbrev pub slot_pool : Option (List ℕ) → List (List ℕ)
 slot_pool None = []
-slot_pool (Some b) = burst_bytes b ∷ []
-
-abbrev pub queued : Queue → List (List ℕ)
-queued q = map burst_bytes (take q.count q.slots)
-
-abbrev pub pair_pool : Pair → Way → List (List ℕ)
-pair_pool p Down = slot_pool p.below
-pair_pool p Up = slot_pool p.above
-
-abbrev pub carrier_pool : Carrier → Way → List (List ℕ)
-carrier_pool c Down = queued c.below
-carrier_pool c Up = queued c.above
+slot_pool (Some b) = b ∷ []
 
 abbrev pub first : List (List ℕ) → Option (List ℕ)
 first [] = None
@@ -32,18 +16,35 @@ abbrev pub rest : List (List ℕ) → List (List ℕ)
 rest [] = []
 rest (b ∷ bs) = bs
 
+-- what is put by a rule; what is no burst is not put
+abbrev pub put_by : (List ℕ → List (List ℕ) → List (List ℕ)) → List ℕ → List (List ℕ) → List (List ℕ)
+put_by rule b pool = cond (is_burst b) (rule b pool) pool
+
+-- the newest burst alone, and up to eight of them in line
+abbrev pub newest : List ℕ → List (List ℕ) → List (List ℕ)
+newest b pool = b ∷ []
+
+abbrev pub up_to_eight : List ℕ → List (List ℕ) → List (List ℕ)
+up_to_eight b pool = cond (nat_lt (length pool) 8) (pool ++ b ∷ []) pool
+
 -- the pair's rule: the newest burst alone is kept
 abbrev pub replaced : List ℕ → List (List ℕ) → List (List ℕ)
-replaced b pool = cond (is_burst b) (b ∷ []) pool
+replaced = put_by newest
 
 -- the carrier's rule: first in first out, and a ninth is dropped
 abbrev pub lined : List ℕ → List (List ℕ) → List (List ℕ)
-lined b pool = cond (is_burst b) (cond (nat_lt (length pool) 8) (pool ++ b ∷ []) pool) pool
+lined = put_by up_to_eight
 
 -- a line that puts by its rule and, at a taking, gives and removes its first burst; it gives nothing only if that way is empty, and the other way stays as it is
 abbrev pub Exact : (List ℕ → List (List ℕ) → List (List ℕ)) → Way → Motion → (Way → List (List ℕ)) → (Way → List (List ℕ)) → Type 0
 Exact rule w (puts b) before after = (after w ≡ rule b (before w)) × (after (other w) ≡ before (other w))
-Exact rule w (takes o) before after = (o ≡ first (before w)) × (after w ≡ rest (before w)) × (after (other w) ≡ before (other w))
+Exact rule w (takes o) before after =
+    (o ≡ first (before w)) × IfSome o (λ b. is_burst b ≡ true) × (after w ≡ rest (before w)) × (after (other w) ≡ before (other w))
+
+-- the same, without saying that what is given is a burst
+abbrev pub Follows : (List ℕ → List (List ℕ) → List (List ℕ)) → Way → Motion → (Way → List (List ℕ)) → (Way → List (List ℕ)) → Type 0
+Follows rule w (puts b) before after = (after w ≡ rule b (before w)) × (after (other w) ≡ before (other w))
+Follows rule w (takes o) before after = (o ≡ first (before w)) × (after w ≡ rest (before w)) × (after (other w) ≡ before (other w))
 
 -- a putting, and then a taking the same way
 abbrev pub Carries : (List ℕ → List (List ℕ) → List (List ℕ)) → Way → List ℕ → (Way → List (List ℕ)) → Option (List ℕ) → (Way → List (List ℕ)) → Type 0

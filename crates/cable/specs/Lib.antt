@@ -1,5 +1,6 @@
 pub mod Buffers
-pub mod Bursts
 pub mod Held
 pub mod Pools
 pub mod Rules
+pub mod Slots
+pub mod TwoWay

@@ -1,7 +1,7 @@
 -- What a line may do. Its meaning is two pools of bursts, one each way.
-use Rattle.std.specs.Prelude.{◌≡◌, ℕ, ◌≤◌, Bool, true, false, ◌⊎◌, List, [], ◌∷◌, take, Some, None, Option}
+use Rattle.std.specs.Prelude.{◌≡◌, ℕ, ◌≤◌, Bool, true, false, ◌⊎◌, List, [], ◌∷◌, take, drop, Some, None, Option}
 use Rattle.mlan.specs.Checksum.{is_sound}
-use Rattle.cable.specs.Bursts.{is_burst}
+use Rattle.mlan.specs.Bursts.{is_burst}
 use Rattle.cable.specs.declared.Way.{Way}
 use Rattle.cable.specs.declared.Way.TheVariants.{Down, Up}
 
@@ -49,3 +49,7 @@ length_given (Some n) = n
 abbrev pub Fits : Option ℕ → Type 0
 Fits None = Unit {0}
 Fits (Some n) = n ≤ 64
+
+-- the bytes that were lent stay as they were behind what was given
+abbrev pub Stays : Option ℕ → List ℕ → List ℕ → Type 0
+Stays o before after = drop (length_given o) after ≡ drop (length_given o) before

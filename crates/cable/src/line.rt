@@ -1,11 +1,9 @@
-ghost use Rattle.std.specs.Prelude.{◌≡◌, ℕ, List, drop};
-ghost use Rattle.std.specs.Option.{option_map};
+ghost use Rattle.std.specs.Prelude.{◌≡◌, ℕ, List};
 ghost use Rattle.cable.specs.declared.Way.{Way};
-ghost use Rattle.cable.specs.Bursts.{burst_bytes};
-ghost use Rattle.cable.specs.Pools.{other, Motion, puts, takes, Lawful, given, length_given, Fits};
+ghost use Rattle.cable.specs.Pools.{other, Motion, puts, takes, Lawful, given, Fits, Stays};
 
 use super::Way;
-use super::burst::Burst;
+use mlan::burst::Burst;
 
 // A line. Its meaning is two pools of bursts, one each way, that are empty when it is new.
 // It chooses what becomes of a burst: `moves` says what a call did, and can be had for a
@@ -21,22 +19,21 @@ pub trait Line {
         ensures { moves self.old way (puts burst.now) self.new };
 
     // Takes a burst that came this way: writes it over the first bytes that are lent, and
-    // answers its length, or nothing. The bytes behind it stay as they were.
+    // answers its length, or nothing. The bytes behind it stay as they were. (That 64 bytes are
+    // lent is a rule of the project.)
     fn take(&mut self, way: Way, into: &mut [u8; 64]) -> Option<usize>
         ensures moves { moves self.old way (takes (given result into.new)) self.new }
         ensures fits { Fits result }
-        ensures rest { drop (length_given result) into.new ≡ drop (length_given result) into.old };
+        ensures rest { Stays result into.old into.new };
 
     ghost lawful: { (s : Self) (w : Way) (m : Motion) (t : Self) → moves s w m t → Lawful m (pool s w) (pool s (other w)) (pool t w) (pool t (other w)) };
 }
 
 // Takes a burst to keep, or nothing.
 pub fn taken<L: Line>(line: &mut L, way: Way) -> Option<Burst>
-    ensures { L.Line.moves line.old way (takes (option_map burst_bytes result)) line.new }
+    ensures { L.Line.moves line.old way (takes result) line.new }
 {
     let mut lent = [0; 64];
-    match line.take(way, &mut lent) {
-        Some(len) => Burst::new(&lent[0..len]),
-        None => None,
-    }
+    let len = line.take(way, &mut lent)?;
+    Burst::new(&lent[..len])
 }

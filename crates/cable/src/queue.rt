@@ -1,14 +1,66 @@
-ghost use Rattle.std.specs.Prelude.{◌≡◌, ◌≤◌, length};
+ghost use Rattle.std.specs.Prelude.{◌≡◌, [], is_none, position};
+ghost use Rattle.cable.specs.Held.{first, rest, up_to_eight};
+ghost use Rattle.cable.specs.Rules.{up_to_eight_adds};
 
-use super::burst::Burst;
+use super::store::Store;
+use mlan::burst::Burst;
+use std::marker::Model;
 
-// At most eight bursts, the oldest first. The slots behind them hold nothing of interest.
+// How many bursts a carrier holds each way.
+const ROOM: usize = 8;
+
+// At most eight bursts, the oldest first; the slots behind them are free. In a contract it is
+// the list of these bursts. It is an array, and no vector, to be `Copy`.
 #[derive(Clone, Copy)]
 pub struct Queue {
-    slots: [Burst; 8],
-    count: usize,
-    ghost to_8: { count ≤ 8 },
-    ghost room: { length slots ≡ 8 },
+    slots: [Option<Burst>; ROOM],
 }
 
-mod ends;
+impl Model for Queue {
+    ghost use Rattle.std.specs.Prelude.{◌≡◌, ℕ, List, length};
+    ghost use Rattle.std.proofs.Common.{sym};
+    ghost use Rattle.cable.specs.Slots.{in_line, bursts_in};
+
+    ghost Value = { List (List ℕ) };
+
+    ghost view = { λ q. bursts_in q.slots };
+
+    ghost invariant = { λ q. (length q.slots ≡ 8) × (q.slots ≡ in_line 8 (bursts_in q.slots)) };
+
+    ghost inverse = { λ v. record { slots = in_line 8 v } };
+
+    ghost inverse_ok = { λ q h i. record { slots = sym h.1 i } };
+}
+
+fn first_free(slots: &[Option<Burst>]) -> Option<usize>
+    ensures { result ≡ position is_none slots.now }
+{
+    slots.iter().position(Option::is_none)
+}
+
+impl Store for Queue {
+    ghost held = { λ q. q };
+
+    ghost rule = { up_to_eight };
+
+    ghost adds = { up_to_eight_adds };
+
+    fn empty() -> Self {
+        Queue {
+            slots: [None; ROOM],
+        }
+    }
+
+    // A ninth burst is dropped.
+    fn put(&mut self, burst: Burst) {
+        if let Some(free) = first_free(&self.slots) {
+            self.slots[free] = Some(burst);
+        }
+    }
+
+    fn take(&mut self) -> Option<Burst> {
+        let oldest = self.slots[0].take();
+        self.slots.rotate_left(1);
+        oldest
+    }
+}

@@ -5,10 +5,12 @@
 mod tests {
     use blender::machine::Machine;
     use cable::Way;
+    use cable::buffer::BufferRefusal;
     use cable::carrier::Carrier;
-    use cable::line::Line;
+    use cable::line::{Line, taken};
     use cable::pair::Pair;
     use kinds::{Feeder, Four, Kind, Twelve};
+    use mlan::burst::Burst;
     use segment::joined::Joined;
     use segment::segment::Segment;
     use serving::serve;
@@ -18,9 +20,7 @@ mod tests {
     use terms::address::Address;
 
     fn machine<K: Kind + Drop>(address: u8, unit: Unit, kind: K) -> Result<Machine<K>, Fail> {
-        let Ok(address) = Address::new(address) else {
-            return Err(Fail::new("1 to 254 is an address"));
-        };
+        let address = Address::new(address).map_err(|_| Fail::new("1 to 254 is an address"))?;
         Ok(Machine::new(address, unit, kind))
     }
 
@@ -44,17 +44,9 @@ mod tests {
         for byte in &buffer[len..] {
             assert_eq!(rt; *byte, 0);
         }
-        let mut up = [0; 64];
-        match line.take(Way::Up, &mut up) {
-            Some(n) => {
-                assert_eq!(rt; &up[0..n.min(64)], reply);
-                Ok(())
-            },
-            None => {
-                assert_eq!(rt; reply.len(), 0);
-                Ok(())
-            },
-        }
+        let up = taken(line, Way::Up);
+        assert_eq!(rt; up.as_ref().map_or(&[][..], Burst::as_slice), reply);
+        Ok(())
     }
 
     // A Four, a Twelve and a Feeder: each answers at its own address. What goes to all has no
@@ -66,32 +58,19 @@ mod tests {
         let feeder = machine(9, Unit::Tenths, Feeder)?;
         let mut drop = Joined::new(four, Joined::new(twelve, feeder));
         let mut line = Carrier::new();
-        exchange(
-            &rt,
-            &mut line,
-            &mut drop,
-            &[3, 49, 203],
-            &[3, 49, 2, 4, 197],
-        )?;
-        exchange(
-            &rt,
-            &mut line,
-            &mut drop,
-            &[5, 49, 201],
-            &[5, 49, 9, 12, 180],
-        )?;
-        exchange(
-            &rt,
-            &mut line,
-            &mut drop,
-            &[9, 49, 197],
-            &[9, 49, 2, 12, 183],
-        )?;
-        exchange(&rt, &mut line, &mut drop, &[4, 49, 202], &[])?;
-        exchange(&rt, &mut line, &mut drop, &[0, 86, 2, 167], &[])?;
-        exchange(&rt, &mut line, &mut drop, &[3, 85, 167], &[3, 85, 2, 165])?;
-        exchange(&rt, &mut line, &mut drop, &[5, 85, 165], &[5, 85, 2, 163])?;
-        exchange(&rt, &mut line, &mut drop, &[9, 85, 161], &[9, 85, 0, 161])
+        for (burst, reply) in [
+            (&[3, 49, 203][..], &[3, 49, 2, 4, 197][..]),
+            (&[5, 49, 201], &[5, 49, 9, 12, 180]),
+            (&[9, 49, 197], &[9, 49, 2, 12, 183]),
+            (&[4, 49, 202], &[]),
+            (&[0, 86, 2, 167], &[]),
+            (&[3, 85, 167], &[3, 85, 2, 165]),
+            (&[5, 85, 165], &[5, 85, 2, 163]),
+            (&[9, 85, 161], &[9, 85, 0, 161]),
+        ] {
+            exchange(&rt, &mut line, &mut drop, burst, reply)?;
+        }
+        Ok(())
     }
 
     // Alone on the cable, a machine answers what goes to all, with its own address.
@@ -99,21 +78,14 @@ mod tests {
     fn to_all_on_a_cable_of_one(rt: HostRuntime) -> Result<(), Fail> {
         let mut twelve = machine(5, Unit::Tenths, Twelve)?;
         let mut line = Pair::new();
-        exchange(
-            &rt,
-            &mut line,
-            &mut twelve,
-            &[0, 49, 206],
-            &[5, 49, 2, 12, 187],
-        )?;
-        exchange(
-            &rt,
-            &mut line,
-            &mut twelve,
-            &[0, 86, 4, 165],
-            &[5, 48, 6, 196],
-        )?;
-        exchange(&rt, &mut line, &mut twelve, &[5, 85, 165], &[5, 85, 4, 161])
+        for (burst, reply) in [
+            (&[0, 49, 206][..], &[5, 49, 2, 12, 187][..]),
+            (&[0, 86, 4, 165], &[5, 48, 6, 196]),
+            (&[5, 85, 165], &[5, 85, 4, 161]),
+        ] {
+            exchange(&rt, &mut line, &mut twelve, burst, reply)?;
+        }
+        Ok(())
     }
 
     // Two machines at one address both obey, and nobody understands their replies.
@@ -141,6 +113,12 @@ mod tests {
         )
     }
 
+    // The length of the reply to a question for the settings, and its byte with the mark.
+    fn mark<K: Kind>(machine: &mut Machine<K>) -> Option<(usize, u8)> {
+        let reply = machine.answer(&[9, 20, 226])?;
+        Some((reply.as_slice().len(), reply.padded()[2]))
+    }
+
     // A batch goes to the leftmost machine of its address: its mark is up, the other's is not.
     #[test]
     fn batch_at_the_leftmost(rt: HostRuntime) -> Result<(), Fail> {
@@ -148,11 +126,8 @@ mod tests {
         let right = machine(9, Unit::Grams, Feeder)?;
         let mut drop = Joined::new(left, right);
         assert!(rt; Segment::batch(&mut drop, 9, &[4711]).is_ok());
-        let mut out = [0; 64];
-        assert_eq!(rt; drop.left.answer(&[9, 20, 226], &mut out), 49);
-        assert_eq!(rt; out[2], 10);
-        assert_eq!(rt; drop.right.answer(&[9, 20, 226], &mut out), 49);
-        assert_eq!(rt; out[2], 9);
+        assert_eq!(rt; mark(&mut drop.left), Some((49, 10)));
+        assert_eq!(rt; mark(&mut drop.right), Some((49, 9)));
         Ok(())
     }
 
@@ -163,16 +138,12 @@ mod tests {
         let mut line = Pair::new();
         let mut small = [7; 63];
         line.put(Way::Down, &[5, 49, 201]);
-        match serve(&mut line, &mut twelve, &mut small) {
-            Err(refusal) => assert_eq!(rt; refusal.number(), 1),
-            Ok(_) => return Err(Fail::new("63 bytes are too few")),
-        }
+        let refused = serve(&mut line, &mut twelve, &mut small);
+        assert_eq!(rt; refused.map_err(BufferRefusal::number), Err(1));
         assert_eq!(rt; small, [7; 63]);
         let mut buffer = [7; 64];
-        match serve(&mut line, &mut twelve, &mut buffer) {
-            Ok(len) => assert_eq!(rt; len, 5),
-            Err(_) => return Err(Fail::new("64 bytes are enough")),
-        }
+        let served = serve(&mut line, &mut twelve, &mut buffer);
+        assert_eq!(rt; served, Ok(5));
         assert_eq!(rt; buffer[4], 187);
         assert_eq!(rt; buffer[5], 0);
         Ok(())

@@ -8,7 +8,7 @@ use Rattle.commands.specs.declared.command.Command.TheVariants.{GetTotals, SetSe
 
 abbrev pub said : Command → Said
 said (GetTotals reset) = get_totals reset
-said (SetSettings rows recipe operator order) = set_settings (piece rows) recipe operator order
+said (SetSettings s) = set_settings (piece s.rows) s.recipe s.operator s.order
 said GetSettings = get_settings
 said GetType = get_type
 said (SetFunction function value) = set_function function value

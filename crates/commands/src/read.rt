@@ -8,9 +8,10 @@ use mlan::checksum::sound;
 use mlan::fault::CommandFault;
 use mlan::frame::{Frame, Part};
 use rows::rows_fault;
-use terms::{Function, Tag, TagFault, WeightUnits};
+use terms::{Function, Sheet, Tag, TagFault, WeightUnits};
 
-// The fault of data of a wrong length: the burst has three bytes more.
+// The fault of data of a wrong length: the burst has three bytes more. `replies` has the same
+// two lines with another fault; a trait for both faults would be longer than both.
 fn length_fault(bytes: &[u8]) -> CommandFault
     ensures { result ≡ CommandFault.Length (length bytes.now + 3) }
 {
@@ -35,7 +36,7 @@ fn read_function(bytes: &[u8]) -> Result<Command<'_>, CommandFault>
     let [code, high, low] = bytes else {
         return Err(length_fault(bytes));
     };
-    let Some(function) = Function::from_code(*code) else {
+    let Ok(function) = Function::try_from(*code) else {
         return Err(CommandFault::Field { at: 2 });
     };
     let value = u16::from_be_bytes([*high, *low]);
@@ -64,9 +65,9 @@ fn read_units(bytes: &[u8]) -> Result<Command<'_>, CommandFault>
     let [code] = bytes else {
         return Err(length_fault(bytes));
     };
-    match WeightUnits::from_code(*code) {
-        Some(units) => Ok(Command::SetUnits { units }),
-        None => Err(CommandFault::Field { at: 2 }),
+    match WeightUnits::try_from(*code) {
+        Ok(units) => Ok(Command::SetUnits { units }),
+        Err(_) => Err(CommandFault::Field { at: 2 }),
     }
 }
 
@@ -120,12 +121,12 @@ fn read_settings<K: Kind>(bytes: &[u8]) -> Result<Command<'_>, CommandFault>
     if order > 999_999 {
         return Err(CommandFault::Field { at: 42 });
     }
-    Ok(Command::SetSettings {
+    Ok(Command::SetSettings(Sheet {
         rows,
         recipe,
         operator,
         order,
-    })
+    }))
 }
 
 fn read_data<K: Kind>(code: u8, bytes: &[u8]) -> Result<Command<'_>, CommandFault>

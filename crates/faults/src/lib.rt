@@ -8,7 +8,7 @@ ghost use Rattle.faults.specs.declared.AccountFault.TheVariants.{Message};
 ghost use Rattle.faults.specs.declared.MessageFault.TheVariants.{Burst};
 
 // What came over the line is no sound burst.
-#[derive(Clone, Copy)]
+#[derive(Clone, Copy, Debug, PartialEq, Eq)]
 pub enum BurstFault {
     // The line gave nothing.
     Nothing,
@@ -19,7 +19,7 @@ pub enum BurstFault {
 }
 
 // A sound burst is not the reply to the question.
-#[derive(Clone, Copy)]
+#[derive(Clone, Copy, Debug, PartialEq, Eq)]
 pub enum MessageFault {
     Burst(BurstFault),
     // It comes from another address.
@@ -33,7 +33,7 @@ pub enum MessageFault {
 }
 
 // The totals of a reply cannot be booked.
-#[derive(Clone, Copy)]
+#[derive(Clone, Copy, Debug, PartialEq, Eq)]
 pub enum AccountFault {
     Message(MessageFault),
     // A late reply: a place would add 2,147,483,648 or more; its total's first byte is given.

@@ -1,8 +1,8 @@
 -- The components of a kind: their places are 1 to 12, and no two are alike.
-use Rattle.std.proofs.Common.{◌≡◌, ℕ, zero, suc, ◌+◌, ◌<◌, ◌≤◌, true, false, not, eqb, leb, ◌⊎◌, List, [], ◌∷◌, ◌++◌, length, get_or, sym, refl, ap, ◌∙◌, inl, inr, arith, length-append}
+use Rattle.std.proofs.Common.{◌≡◌, ℕ, zero, suc, ◌+◌, ◌<◌, ◌≤◌, true, false, cond, not, eqb, leb, Some, None, ◌⊎◌, List, [], ◌∷◌, ◌++◌, length, get_or, sym, refl, ap, ◌∙◌, inl, inr, arith, length-append}
 use Rattle.std.proofs.lemmas.List.{get_or_append_left, get_or_push}
-use Rattle.std.proofs.lemmas.Bool.{and_parts, leb-true, not-true, cases_eq}
-use Rattle.kinds.specs.Kinds.{KindFacts, listed, differs_from_all, apart, places}
+use Rattle.std.proofs.lemmas.Bool.{and_parts, leb-true, not-true, ne_eqb, cases_eq}
+use Rattle.kinds.specs.Kinds.{KindFacts, listed, differs_from_all, apart, places, place_told}
 
 pub length_listed : (place : ℕ → ℕ) (n : ℕ) → length (listed place n) ≡ n
 length_listed place zero = refl
@@ -40,3 +40,9 @@ component_place k i h =
     let e = get_or_listed k.place k.components i h in
     let w = within_twelve (places k) i (omega (arith, length_listed k.place k.components)) k.places_apart in
     (e, omega (arith, e, w.0), omega (arith, e, w.1))
+
+-- so each component of a kind is told its place
+pub told_component : (k : KindFacts) (i : ℕ) → i < k.components → place_told k (i + 1) ≡ Some (get_or (places k) i 0)
+told_component k i h =
+    let w = component_place k i h in
+    ap (λ b. cond b None (Some (k.place (i + 1)))) (ne_eqb (k.place (i + 1)) 0 (λ e. omega (arith, e, w.1))) ∙ ap Some (sym w.0)

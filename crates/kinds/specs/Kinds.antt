@@ -1,5 +1,6 @@
 -- The kinds of machine: what each one tells of itself, and what it must show.
-use Rattle.std.specs.Prelude.{◌≡◌, ℕ, zero, suc, Bool, true, false, cond, not, ◌&&◌, ◌||◌, ◌⊎◌, List, [], ◌∷◌, ◌++◌, length, ◌==◌, nat_le, refl}
+use Rattle.std.specs.Prelude.{◌≡◌, ℕ, zero, suc, Bool, true, cond, not, ◌&&◌, ◌||◌, ◌⊎◌, List, [], ◌∷◌, ◌++◌, length, Some, None, Option, ◌==◌, nat_le, refl}
+use Rattle.std.specs.List.{list_all}
 use Rattle.std.proofs.Common.{inl, inr}
 
 -- the places of the components 1 to n, in their order
@@ -21,8 +22,7 @@ abbrev pub is_character : ℕ → Bool
 is_character c = nat_le 32 c && nat_le c 126
 
 abbrev pub all_characters : List ℕ → Bool
-all_characters [] = true
-all_characters (c ∷ cs) = cond (is_character c) (all_characters cs) false
+all_characters cs = list_all is_character cs
 
 abbrev pub is_version : List ℕ → Bool
 is_version cs = length cs == 6 && all_characters cs
@@ -55,6 +55,10 @@ pub record KindFacts : Type 0 where
 -- the places of a kind's components
 abbrev pub places : KindFacts → List ℕ
 places k = listed k.place k.components
+
+-- the place of a component, counted from 1; where the fact is 0 there is no such component
+abbrev pub place_told : KindFacts → ℕ → Option ℕ
+place_told k c = cond (k.place c == 0) None (Some (k.place c))
 
 -- the codes of a feeder: totals, settings, type, version, units
 abbrev pub feeder_code : ℕ → Bool

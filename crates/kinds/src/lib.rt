@@ -2,48 +2,52 @@
 // tells of itself never changes, so the machine above is written once for all.
 #![tactic(auto)]
 
-ghost use Rattle.std.specs.Prelude.{◌≡◌};
-ghost use Rattle.kinds.specs.Kinds.{KindFacts, feeder_code, known_code, four_facts, twelve_facts, feeder_facts};
+ghost use Rattle.std.specs.Prelude.{◌≡◌, ℕ, List, refl};
+ghost use Rattle.kinds.specs.Kinds.{KindFacts, place_told, feeder_code, known_code, four_facts, twelve_facts, feeder_facts};
 
-// What a kind tells: each fact as an associated constant where it is one number,
-// and by a function whose contract says that it is the fact. Code that is
-// generic over the kind calls the functions, because a proof knows nothing of a
-// constant's value there.
+// What a kind tells: what is one value as a constant, the rest by a function.
 pub trait Kind {
+    // a number, as a reply shows it
     const SOFTWARE: u8;
 
     const COMPONENTS: usize;
 
+    // The greatest type of a row that holds a setting.
     const MATERIALS: u8;
+
+    const VERSION: [u8; 6];
+
+    ghost SOFTWARE: { ℕ };
+
+    ghost COMPONENTS: { ℕ };
+
+    ghost MATERIALS: { ℕ };
+
+    ghost VERSION: { List ℕ };
 
     // The facts hold the laws of a kind: its software is 4 or 12, it takes
     // codes 16 and 17, and two components have two places, each from 1 to 12.
     ghost facts: { KindFacts };
 
-    fn software_type() -> u8
-        ensures { result ≡ facts.software };
-
-    fn component_count() -> usize
-        ensures { result ≡ facts.components };
-
-    // The place of a component, both counted from 1; 0 where there is no such component.
-    fn place(component: usize) -> usize
-        ensures { result ≡ facts.place component };
+    // The place of a component, both counted from 1.
+    fn place(component: usize) -> Option<usize>
+        ensures { result ≡ place_told facts component };
 
     // Whether a row holds a setting. The other rows are zero.
     fn holds(row: usize) -> bool
         ensures { result ≡ facts.holds row };
 
-    // The greatest type of a row that holds a setting.
-    fn greatest_material() -> u8
-        ensures { result ≡ facts.materials };
-
-    fn version() -> [u8; 6]
-        ensures { result ≡ facts.version };
-
     // Whether the kind takes commands of this code.
     fn takes(code: u8) -> bool
         ensures { result ≡ facts.takes code };
+
+    ghost software_told: { SOFTWARE ≡ facts.software };
+
+    ghost components_told: { COMPONENTS ≡ facts.components };
+
+    ghost materials_told: { MATERIALS ≡ facts.materials };
+
+    ghost version_told: { VERSION ≡ facts.version };
 }
 
 // The codes of a feeder: totals, settings, type, version and units.
@@ -61,7 +65,7 @@ fn is_known(code: u8) -> bool
 }
 
 // A blender with four-component software.
-#[derive(Clone, Copy)]
+#[derive(Clone, Copy, Debug, PartialEq, Eq)]
 pub struct Four;
 
 impl Kind for Four {
@@ -71,33 +75,32 @@ impl Kind for Four {
 
     const MATERIALS: u8 = 0;
 
+    const VERSION: [u8; 6] = *b"F10000";
+
+    ghost SOFTWARE = { 4 };
+
+    ghost COMPONENTS = { 4 };
+
+    ghost MATERIALS = { 0 };
+
+    ghost VERSION = { four_facts.version };
+
     ghost facts = { four_facts };
 
-    fn software_type() -> u8 {
-        Self::SOFTWARE
-    }
+    ghost software_told = { refl };
 
-    fn component_count() -> usize {
-        Self::COMPONENTS
-    }
+    ghost components_told = { refl };
 
-    fn place(component: usize) -> usize {
-        match component {
-            1..=4 => component,
-            _ => 0,
-        }
+    ghost materials_told = { refl };
+
+    ghost version_told = { refl };
+
+    fn place(component: usize) -> Option<usize> {
+        matches!(component, 1..=4).then_some(component)
     }
 
     fn holds(row: usize) -> bool {
         matches!(row, 1 | 3 | 4)
-    }
-
-    fn greatest_material() -> u8 {
-        Self::MATERIALS
-    }
-
-    fn version() -> [u8; 6] {
-        *b"F10000"
     }
 
     fn takes(code: u8) -> bool {
@@ -106,7 +109,7 @@ impl Kind for Four {
 }
 
 // A blender with twelve-component software.
-#[derive(Clone, Copy)]
+#[derive(Clone, Copy, Debug, PartialEq, Eq)]
 pub struct Twelve;
 
 impl Kind for Twelve {
@@ -116,33 +119,32 @@ impl Kind for Twelve {
 
     const MATERIALS: u8 = 3;
 
+    const VERSION: [u8; 6] = *b"T10000";
+
+    ghost SOFTWARE = { 12 };
+
+    ghost COMPONENTS = { 12 };
+
+    ghost MATERIALS = { 3 };
+
+    ghost VERSION = { twelve_facts.version };
+
     ghost facts = { twelve_facts };
 
-    fn software_type() -> u8 {
-        Self::SOFTWARE
-    }
+    ghost software_told = { refl };
 
-    fn component_count() -> usize {
-        Self::COMPONENTS
-    }
+    ghost components_told = { refl };
 
-    fn place(component: usize) -> usize {
-        match component {
-            1..=12 => component,
-            _ => 0,
-        }
+    ghost materials_told = { refl };
+
+    ghost version_told = { refl };
+
+    fn place(component: usize) -> Option<usize> {
+        matches!(component, 1..=12).then_some(component)
     }
 
     fn holds(row: usize) -> bool {
-        row >= 1 && row <= 12
-    }
-
-    fn greatest_material() -> u8 {
-        Self::MATERIALS
-    }
-
-    fn version() -> [u8; 6] {
-        *b"T10000"
+        matches!(row, 1..=12)
     }
 
     fn takes(code: u8) -> bool {
@@ -151,7 +153,7 @@ impl Kind for Twelve {
 }
 
 // A gravimetric feeder: one component, which stands at place 12.
-#[derive(Clone, Copy)]
+#[derive(Clone, Copy, Debug, PartialEq, Eq)]
 pub struct Feeder;
 
 impl Kind for Feeder {
@@ -161,30 +163,32 @@ impl Kind for Feeder {
 
     const MATERIALS: u8 = 0;
 
+    const VERSION: [u8; 6] = *b"M10000";
+
+    ghost SOFTWARE = { 12 };
+
+    ghost COMPONENTS = { 1 };
+
+    ghost MATERIALS = { 0 };
+
+    ghost VERSION = { feeder_facts.version };
+
     ghost facts = { feeder_facts };
 
-    fn software_type() -> u8 {
-        Self::SOFTWARE
-    }
+    ghost software_told = { refl };
 
-    fn component_count() -> usize {
-        Self::COMPONENTS
-    }
+    ghost components_told = { refl };
 
-    fn place(component: usize) -> usize {
-        if component == 1 { 12 } else { 0 }
+    ghost materials_told = { refl };
+
+    ghost version_told = { refl };
+
+    fn place(component: usize) -> Option<usize> {
+        (component == 1).then_some(12)
     }
 
     fn holds(row: usize) -> bool {
         row == 12
-    }
-
-    fn greatest_material() -> u8 {
-        Self::MATERIALS
-    }
-
-    fn version() -> [u8; 6] {
-        *b"M10000"
     }
 
     fn takes(code: u8) -> bool {

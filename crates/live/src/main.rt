@@ -23,6 +23,7 @@ fn command_line(rt: &HostRuntime) -> anyhow::Result<String> {
 fn serve(rt: &HostRuntime, cable: &mut LiveCable) -> anyhow::Result<()> {
     let mut input = rt.stdin();
     let mut output = rt.stdout();
+    // a count, since a loop that waits for input has no end that could be proved
     for _ in 0..u64::MAX {
         let mut burst = [0; 64];
         let n = input.read(&mut burst)?;

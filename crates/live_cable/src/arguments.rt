@@ -6,22 +6,19 @@ ghost use Rattle.live_cable.specs.Arguments.{Named, Hung, each_amount, hung, all
 use super::fault::ArgumentFault;
 use super::machines::LiveCable;
 use rack::AnyMachine;
-use rack::rack::{Rack, RackFault};
-use script::{Numeral, says, split_word};
+use rack::rack::Rack;
+use script::{Numeral, Words, says};
 use std::alloc::Global;
 use terms::address::Address;
 use wording::plate::Plate;
 
 // The one number behind `each`.
-fn amount(rest: &[u8]) -> Result<u32, ArgumentFault>
-    ensures { result ≡ each_amount (words rest.now) }
+fn amount(mut line: Words) -> Result<u32, ArgumentFault>
+    ensures { result ≡ each_amount (words line.entry) }
 {
-    let Some((word, behind)) = split_word(rest) else {
+    let (Some(word), None) = (line.next(), line.next()) else {
         return Err(ArgumentFault::Each);
     };
-    if split_word(behind).is_some() {
-        return Err(ArgumentFault::Each);
-    }
     match u32::from_word(word) {
         Some(amount) if amount <= 1_000_000 => Ok(amount),
         Some(_) => Err(ArgumentFault::TooLarge),
@@ -33,14 +30,9 @@ fn amount(rest: &[u8]) -> Result<u32, ArgumentFault>
 fn hang(machines: &mut Rack, plate: Plate) -> Result<(), ArgumentFault>
     ensures { Hung result (hung (racked machines.old) plate) (racked machines.new) }
 {
-    let Ok(address) = Address::new(plate.address) else {
-        return Err(ArgumentFault::Address);
-    };
-    match machines.hang(AnyMachine::new(plate.kind, address, plate.unit)) {
-        Ok(()) => Ok(()),
-        Err(RackFault::Full) => Err(ArgumentFault::TooMany),
-        Err(RackFault::Memory) => Err(ArgumentFault::Memory),
-    }
+    let address = Address::new(plate.address).map_err(|_| ArgumentFault::Address)?;
+    machines.hang(AnyMachine::new(plate.kind, address, plate.unit))?;
+    Ok(())
 }
 
 // A cable with at least one machine.
@@ -59,16 +51,14 @@ pub fn named(heap: Global, line: &[u8]) -> Result<LiveCable, ArgumentFault>
     ensures { Named result (named_from [] (words line.now)) }
 {
     let mut machines = Rack::new(heap);
-    let mut rest = line;
-    while let Some((word, behind)) = split_word(rest) {
+    let mut words = Words::of(line);
+    while let Some(word) = words.peek() {
         if says(word, "each") {
-            return finished(machines, Some(amount(behind)?));
+            let _each = words.next();
+            return finished(machines, Some(amount(words)?));
         }
-        let Some((plate, behind)) = Plate::read(rest) else {
-            return Err(ArgumentFault::Machine);
-        };
+        let plate = Plate::read(&mut words).ok_or(ArgumentFault::Machine)?;
         hang(&mut machines, plate)?;
-        rest = behind;
     }
     finished(machines, None)
 }

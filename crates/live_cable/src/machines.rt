@@ -1,10 +1,8 @@
 ghost use Rattle.std.specs.Prelude.{◌≡◌};
-ghost use Rattle.std.specs.Option.{option_map};
-ghost use Rattle.cable.specs.Bursts.{burst_bytes};
 ghost use Rattle.serving.specs.Serving.{carried_reply, carried_shown};
 ghost use Rattle.live_cable.specs.Cables.{live, moved};
 
-use cable::burst::Burst;
+use mlan::burst::Burst;
 use rack::rack::Rack;
 use serving::over_pair;
 
@@ -19,7 +17,7 @@ pub struct LiveCable {
 impl LiveCable {
     // Serves one burst that arrived; the reply is to be sent at once.
     pub fn answer(&mut self, burst: &[u8]) -> Option<Burst>
-        ensures reply { option_map burst_bytes result ≡ carried_reply burst.now (moved self.old) }
+        ensures reply { result ≡ carried_reply burst.now (moved self.old) }
         ensures machines { live self.new ≡ carried_shown burst.now (moved self.old) }
         ensures each { self.new.each ≡ self.old.each }
     {

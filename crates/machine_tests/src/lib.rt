@@ -10,6 +10,12 @@ mod tests {
     use terms::Unit;
     use terms::address::Address;
 
+    // A new machine at address 5.
+    fn machine<K: Kind + Drop>(unit: Unit, kind: K) -> Result<Machine<K>, Fail> {
+        let address = Address::new(5).map_err(|_| Fail::new("5 is an address"))?;
+        Ok(Machine::new(address, unit, kind))
+    }
+
     // Runs the same batch again and again at address 5.
     fn run<K: Kind>(rt: &impl Abort, machine: &mut Machine<K>, amounts: &[u32], times: u32) {
         for _ in 0..times {
@@ -28,8 +34,9 @@ mod tests {
         total: [u8; 4],
         sum: u8,
     ) {
-        let mut out = [0; 64];
-        assert_eq!(rt; machine.answer(&ask, &mut out), 59);
+        let reply = machine.answer(&ask).expect(rt, "a reply");
+        assert_eq!(rt; reply.as_slice().len(), 59);
+        let out = reply.padded();
         assert!(rt; at < 60);
         assert_eq!(rt; [out[6], out[7]], cycles);
         assert_eq!(rt; [out[8], out[9]], flags);
@@ -41,10 +48,7 @@ mod tests {
     // turns it over, and sets flag bits 0 and 1; code 16 shows them once more and clears them.
     #[test]
     fn total_turns_over(rt: HostRuntime) -> Result<(), Fail> {
-        let Ok(address) = Address::new(5) else {
-            return Err(Fail::new("5 is an address"));
-        };
-        let mut machine = Machine::new(address, Unit::Tenths, Twelve);
+        let mut machine = machine(Unit::Tenths, Twelve)?;
         run(
             &rt,
             &mut machine,
@@ -104,10 +108,7 @@ mod tests {
     // A feeder's one component stands at place 12: bits 0 and 12.
     #[test]
     fn feeder_turns_over(rt: HostRuntime) -> Result<(), Fail> {
-        let Ok(address) = Address::new(5) else {
-            return Err(Fail::new("5 is an address"));
-        };
-        let mut machine = Machine::new(address, Unit::Grams, Feeder);
+        let mut machine = machine(Unit::Grams, Feeder)?;
         run(&rt, &mut machine, &[1_000_000], 4_295);
         expect(
             &rt,
@@ -125,10 +126,7 @@ mod tests {
     // 65,536 batches of nothing bring the count of cycles back to 0, and set no flag.
     #[test]
     fn cycles_turn_over(rt: HostRuntime) -> Result<(), Fail> {
-        let Ok(address) = Address::new(5) else {
-            return Err(Fail::new("5 is an address"));
-        };
-        let mut machine = Machine::new(address, Unit::Tenths, Feeder);
+        let mut machine = machine(Unit::Tenths, Feeder)?;
         run(&rt, &mut machine, &[0], 65_535);
         expect(
             &rt,

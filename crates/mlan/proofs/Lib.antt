@@ -1,3 +1,4 @@
+pub mod Bursts
 pub mod Codes
 pub mod Frames
 pub mod Numerals

@@ -1,5 +1,6 @@
 -- The frame of a burst: the address first, the code second, the checksum last, the data between them.
 use Rattle.std.specs.Prelude.{ℕ, ◌-◌, cond, List, length, take, drop, Some, None, Option, nat_le, slice_index}
+use Rattle.std.specs.Option.{option_map}
 use Rattle.mlan.specs.declared.frame.Frame.{Frame}
 use Rattle.mlan.specs.declared.frame.Part.{Part}
 
@@ -25,8 +26,7 @@ abbrev pub framing_of : Frame → Framing
 framing_of f = record { address = f.address; code = f.code; between = piece f.inner; check = f.check }
 
 abbrev pub framing : Option Frame → Option Framing
-framing None = None
-framing (Some f) = Some (record { address = f.address; code = f.code; between = piece f.inner; check = f.check })
+framing o = option_map framing_of o
 
 abbrev pub code_of : List ℕ → ℕ
 code_of burst = slice_index burst 1

@@ -1,3 +1,4 @@
+pub mod Bursts
 pub mod Checksum
 pub mod Commands
 pub mod Frame

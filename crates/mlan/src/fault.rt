@@ -1,5 +1,5 @@
 // Why a burst is not a command of a kind: the first test that it fails.
-#[derive(Clone, Copy)]
+#[derive(Clone, Copy, Debug, PartialEq, Eq)]
 pub enum CommandFault {
     // Fewer than three bytes, or a wrong sum.
     Unsound,

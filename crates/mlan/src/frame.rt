@@ -3,14 +3,14 @@ ghost use Rattle.mlan.specs.Frame.{framing, framed};
 
 // A part of a burst that is handed on: its bytes, and the number of the first
 // one in the burst, counted from 0.
-#[derive(Clone, Copy)]
+#[derive(Clone, Copy, Debug, PartialEq, Eq)]
 pub struct Part<'a> {
     pub at: usize,
     pub bytes: &'a [u8],
 }
 
 // The four parts of a burst.
-#[derive(Clone, Copy)]
+#[derive(Clone, Copy, Debug, PartialEq, Eq)]
 pub struct Frame<'a> {
     pub address: u8,
     pub code: u8,

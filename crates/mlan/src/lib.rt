@@ -1,6 +1,7 @@
 // MLAN bursts: the checksum, the frame, and the faults of a command.
 #![tactic(auto)]
 
+pub mod burst;
 pub mod checksum;
 pub mod fault;
 pub mod frame;

@@ -1,26 +1,20 @@
 -- A rack's machines, one after the other.
-use Rattle.std.proofs.Common.{◌≡◌, ℕ, ◌+◌, ◌<◌, Bool, true, false, cond, eqb, List, [], ◌∷◌, ◌++◌, map, length, get_or, take, drop, set, Some, None, Err, Result, sym, ap, ◌∙◌, subst, add-one, arith, drop-cons, drop-set-lt, eq-eqb, ne_eqb}
+use Rattle.std.proofs.Common.{◌≡◌, ℕ, ◌+◌, ◌<◌, Bool, true, cond, eqb, List, [], ◌∷◌, ◌++◌, map, length, get_or, take, drop, set, Some, None, Err, Result, sym, ap, ◌∙◌, add-one, arith, drop-cons, drop-set-lt, eq-eqb, ne_eqb}
 use Rattle.std.proofs.lemmas.List.{map-append}
 use Rattle.std.proofs.lemmas.List.{set_split, set-get_or}
 use Rattle.std.proofs.lemmas.List.{take_more, take_more_set}
 use Rattle.terms.specs.Addresses.{is_address}
 use Rattle.terms.specs.declared.Refusal.{Refusal}
 use Rattle.terms.specs.declared.Refusal.TheVariants.{NoAddress, NoMachine}
-use Rattle.terms.specs.declared.Unit.TheVariants.{Tenths}
-use Rattle.terms.specs.declared.WeightUnits.TheVariants.{Pounds}
 use Rattle.blender.specs.Machines.{Model}
-use Rattle.segment.specs.Drops.{when_accepted, machine_answer, drop_answer, leftmost_filled, drop_batched, replies, shown}
-use Rattle.segment.specs.Saying.{said_of, Fits, joined_said, joined_out}
+use Rattle.blender.specs.Batches.{if_accepted}
+use Rattle.segment.specs.Drops.{machine_answer, drop_answer, leftmost_filled, drop_batched, replies, shown}
+use Rattle.segment.specs.Saying.{said_of, joined_said}
 use Rattle.segment.specs.declared.segment.Said.{Said}
 use Rattle.segment.proofs.Joins.{none_there, batch_left, batch_right}
-use Rattle.segment.proofs.Says.{replies_append, shown_append, joins_said, joins_out, joins_fit, shows}
+use Rattle.segment.proofs.Says.{replies_append, shown_append, joins_said}
 use Rattle.rack.specs.Racks.{any_model, even_batched}
 use Rattle.rack.specs.declared.AnyMachine.{AnyMachine}
-use Rattle.rack.specs.declared.AnyMachine.TheVariants.{OfFour}
-
--- what stands for a machine past the end of a list
-abbrev pub blank : AnyMachine
-blank = OfFour (record { address = 0; unit = Tenths; totals = []; cycles = 0; flags = 0; mark = false; settings = record { rows = []; recipe = 0; operator = 0; order = 0; f82 = 0; f130 = 0; units = Pounds; keypad = false }; kind = record {} })
 
 abbrev pub models : List AnyMachine → List Model
 models xs = map any_model xs
@@ -58,7 +52,7 @@ module _ (a : ℕ) (ns : List ℕ) where
       let z : ◌≡◌ {A = ℕ} 0 1 = cc in omega arith
 
   pub none_changed : (ms : List Model) → drop_answer a ns ms ≡ Err NoMachine → drop_batched a ns ms ≡ ms
-  none_changed ms e = ap (λ r. when_accepted r (leftmost_filled a ns ms) ms) e
+  none_changed ms e = ap (λ r. if_accepted r (leftmost_filled a ns ms) ms) e
 
   pub batch_here : (xs : List AnyMachine) (i : ℕ) (d v : AnyMachine) (r : Result (Unit {0}) Refusal) → i < length xs → (any_model (get_or xs i d)).address ≡ a → drop_answer a ns (models (take i xs)) ≡ Err NoMachine
       → r ≡ drop_answer a ns (any_model (get_or xs i d) ∷ []) → any_model v ∷ [] ≡ drop_batched a ns (any_model (get_or xs i d) ∷ [])
@@ -80,13 +74,8 @@ module _ (a : ℕ) (ns : List ℕ) where
       )
 
 -- a burst: what the machines so far have said and become
-abbrev pub Shown : List ℕ → List AnyMachine → List AnyMachine → ℕ → Said → List ℕ → Type 0
-Shown b old xs i said out =
-    (drop i xs ≡ drop i old)
-    × (models (take i xs) ≡ shown b (models (take i old)))
-    × (said ≡ said_of (replies b (models (take i old))))
-    × (out ≡ shows (replies b (models (take i old))))
-    × Fits said
+abbrev pub Shown : List ℕ → List AnyMachine → List AnyMachine → ℕ → Said → Type 0
+Shown b old xs i said = (drop i xs ≡ drop i old) × (models (take i xs) ≡ shown b (models (take i old))) × (said ≡ said_of (replies b (models (take i old))))
 
 module _ (b : List ℕ) (old xs : List AnyMachine) (i : ℕ) (d : AnyMachine) (within : i < length xs) (within-old : i < length old) where
   abbrev m : Model
@@ -97,10 +86,9 @@ module _ (b : List ℕ) (old xs : List AnyMachine) (i : ℕ) (d : AnyMachine) (w
       let p : get_or xs i d ∷ drop (i + 1) xs ≡ get_or old i d ∷ drop (i + 1) old = sym (rw (add-one, drop-cons xs i d)) ∙ e ∙ rw (add-one, drop-cons old i d) in
       (cc, cc)
 
-  pub show_more : (v : AnyMachine) (said next joined : Said) (out reply after : List ℕ) → Shown b old xs i said out
-      → any_model v ∷ [] ≡ shown b (any_model (get_or xs i d) ∷ []) → next ≡ said_of (replies b (any_model (get_or xs i d) ∷ [])) → reply ≡ shows (replies b (any_model (get_or xs i d) ∷ []))
-      → Fits next → joined ≡ joined_said said next → after ≡ joined_out said next reply out → Shown b old (set xs i v) (i + 1) joined after
-  show_more v said next joined out reply after inv becomes says writes fits is-joined is-out =
+  pub show_more : (v : AnyMachine) (said next joined : Said) → Shown b old xs i said
+      → any_model v ∷ [] ≡ shown b (any_model (get_or xs i d) ∷ []) → next ≡ said_of (replies b (any_model (get_or xs i d) ∷ [])) → joined ≡ joined_said said next → Shown b old (set xs i v) (i + 1) joined
+  show_more v said next joined inv becomes says is-joined =
       let same = same_here inv.0 in
       let past = models (take i old) in
       let grown = one_more old i d within-old in
@@ -108,19 +96,10 @@ module _ (b : List ℕ) (old xs : List AnyMachine) (i : ℕ) (d : AnyMachine) (w
       let seen : shown b (models (take (i + 1) old)) ≡ shown b past ++ shown b (m ∷ []) = ap (shown b) grown ∙ shown_append b past (m ∷ []) in
       let put : models (take (i + 1) (set xs i v)) ≡ models (take i xs) ++ any_model v ∷ [] = ap models (take_more_set xs i v within) ∙ map-append any_model (take i xs) (v ∷ []) in
       let new : any_model v ∷ [] ≡ shown b (m ∷ []) = becomes ∙ ap (λ (x : AnyMachine). shown b (any_model x ∷ [])) same.0 in
-      let word : next ≡ said_of (replies b (m ∷ [])) = says ∙ ap (λ (x : AnyMachine). said_of (replies b (any_model x ∷ []))) same.0 in
-      let bytes : reply ≡ shows (replies b (m ∷ [])) = writes ∙ ap (λ (x : AnyMachine). shows (replies b (any_model x ∷ []))) same.0 in (
+      let word : next ≡ said_of (replies b (m ∷ [])) = says ∙ ap (λ (x : AnyMachine). said_of (replies b (any_model x ∷ []))) same.0 in (
         drop-set-lt (i + 1) xs i v (omega arith) ∙ same.1,
         put ∙ ap (λ (l : List Model). l ++ any_model v ∷ []) inv.1 ∙ ap (λ (l : List Model). shown b past ++ l) new ∙ sym seen,
         is-joined ∙ ap (λ (s : Said). joined_said s next) inv.2 ∙ ap (joined_said (said_of (replies b past))) word ∙ joins_said (replies b past) (replies b (m ∷ [])) ∙ ap said_of (sym heard),
-        is-out
-            ∙ ap (λ (s : Said). joined_out s next reply out) inv.2
-            ∙ ap (λ (s : Said). joined_out (said_of (replies b past)) s reply out) word
-            ∙ ap (λ (l : List ℕ). joined_out (said_of (replies b past)) (said_of (replies b (m ∷ []))) l out) bytes
-            ∙ ap (λ (l : List ℕ). joined_out (said_of (replies b past)) (said_of (replies b (m ∷ []))) (shows (replies b (m ∷ []))) l) inv.3
-            ∙ joins_out (replies b past) (replies b (m ∷ []))
-            ∙ ap shows (sym heard),
-        subst Fits (sym is-joined) (joins_fit said next inv.4 fits),
       )
 
 -- an even batch for each machine

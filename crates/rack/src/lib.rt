@@ -1,21 +1,22 @@
 // Machines whose kind is chosen while a program runs.
 #![tactic(auto)]
 
-ghost use Rattle.std.specs.Prelude.{◌≡◌, [], ◌∷◌, length};
+ghost use Rattle.std.specs.Prelude.{◌≡◌, [], ◌∷◌};
 ghost use Rattle.terms.specs.Addresses.{number};
-ghost use Rattle.mlan.specs.Checksum.{padded};
 ghost use Rattle.blender.specs.Batches.{batch_answer, batched};
-ghost use Rattle.blender.specs.Machines.{new_model, reply, after, bytes_of};
+ghost use Rattle.blender.specs.Machines.{new_model, reply, after};
 ghost use Rattle.rack.specs.Racks.{any_model, facts_of, even_answer, even_batched};
 
 pub mod rack;
 
 use blender::machine::Machine;
 use kinds::{Feeder, Four, Twelve};
+use mlan::burst::Burst;
 use segment::segment::{Said, Segment};
 use terms::address::Address;
 use terms::{KindName, Refusal, Unit};
 
+// An enum, since a function may not make a `dyn` value and hand it out.
 #[derive(Drop)]
 pub enum AnyMachine {
     OfFour(Machine<Four>),
@@ -35,15 +36,14 @@ impl AnyMachine {
     }
 
     // As `Machine::answer`.
-    pub fn answer(&mut self, burst: &[u8], out: &mut [u8; 64]) -> usize
-        ensures len { result ≡ length (bytes_of (reply (any_model self.old) burst.now)) }
-        ensures out { out.new ≡ padded 64 (bytes_of (reply (any_model self.old) burst.now)) }
+    pub fn answer(&mut self, burst: &[u8]) -> Option<Burst>
+        ensures reply { result ≡ reply (any_model self.old) burst.now }
         ensures machine { any_model self.new ≡ after (any_model self.old) burst.now }
     {
         match self {
-            AnyMachine::OfFour(m) => m.answer(burst, out),
-            AnyMachine::OfTwelve(m) => m.answer(burst, out),
-            AnyMachine::OfFeeder(m) => m.answer(burst, out),
+            AnyMachine::OfFour(m) => m.answer(burst),
+            AnyMachine::OfTwelve(m) => m.answer(burst),
+            AnyMachine::OfFeeder(m) => m.answer(burst),
         }
     }
 
@@ -87,18 +87,10 @@ impl Segment for AnyMachine {
     ghost machines = { λ a. any_model a ∷ [] };
 
     fn batch(&mut self, address: u8, amounts: &[u32]) -> Result<(), Refusal> {
-        match self {
-            AnyMachine::OfFour(m) => Segment::batch(m, address, amounts),
-            AnyMachine::OfTwelve(m) => Segment::batch(m, address, amounts),
-            AnyMachine::OfFeeder(m) => Segment::batch(m, address, amounts),
-        }
+        AnyMachine::batch(self, address, amounts)
     }
 
-    fn show(&mut self, burst: &[u8], out: &mut [u8; 64]) -> Said {
-        match self {
-            AnyMachine::OfFour(m) => m.show(burst, out),
-            AnyMachine::OfTwelve(m) => m.show(burst, out),
-            AnyMachine::OfFeeder(m) => m.show(burst, out),
-        }
+    fn show(&mut self, burst: &[u8]) -> Said {
+        self.answer(burst).map_or(Said::Nothing, Said::Reply)
     }
 }

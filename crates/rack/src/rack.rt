@@ -1,10 +1,11 @@
 ghost use Rattle.std.specs.Prelude.{◌≡◌, ◌<◌, [], ◌∷◌, ◌++◌, map, length, MatchResult, ◌==◌};
 ghost use Rattle.rack.specs.Racks.{any_model, even_batched};
 ghost use Rattle.rack.specs.Hanging.{racked, Unhung};
+ghost use Rattle.rack.specs.declared.rack.RackFault.TheVariants.{Memory};
 
 use super::AnyMachine;
-use segment::segment::{Said, Segment, join};
-use std::alloc::Global;
+use segment::segment::{Said, Segment};
+use std::alloc::{AllocFailed, Global};
 use terms::Refusal;
 use terms::address::Address;
 
@@ -15,10 +16,18 @@ pub struct Rack {
 }
 
 // Why no more machine hangs on a rack: it has 254, or there is no memory.
-#[derive(Clone, Copy)]
+#[derive(Clone, Copy, Debug, PartialEq, Eq)]
 pub enum RackFault {
     Full,
     Memory,
+}
+
+impl From<AllocFailed<AnyMachine>> for RackFault {
+    ghost from_gives = { λ _ f. f ≡ Memory };
+
+    fn from(_e: AllocFailed<AnyMachine>) -> RackFault {
+        RackFault::Memory
+    }
 }
 
 impl Rack {
@@ -45,10 +54,8 @@ impl Rack {
         if self.machines.len() >= 254 {
             return Err(RackFault::Full);
         }
-        match self.machines.push(machine) {
-            Ok(()) => Ok(()),
-            Err(_) => Err(RackFault::Memory),
-        }
+        self.machines.push(machine)?;
+        Ok(())
     }
 
     // Every machine runs a batch with this amount for each component.
@@ -66,6 +73,7 @@ impl Segment for Rack {
 
     fn batch(&mut self, address: u8, amounts: &[u32]) -> Result<(), Refusal> {
         Address::new(address)?;
+        // a loop and no `find`, of whose answer a proof does not know which machine it is
         for machine in self.machines.iter_mut() {
             if machine.address() == address {
                 return Segment::batch(machine, address, amounts);
@@ -74,13 +82,10 @@ impl Segment for Rack {
         Err(Refusal::NoMachine)
     }
 
-    fn show(&mut self, burst: &[u8], out: &mut [u8; 64]) -> Said {
+    fn show(&mut self, burst: &[u8]) -> Said {
         let mut said = Said::Nothing;
-        let mut reply = [0; 64];
-        *out = [0; 64];
         for machine in self.machines.iter_mut() {
-            let next = machine.show(burst, &mut reply);
-            said = join(said, next, &reply, out);
+            said = said.and(machine.show(burst));
         }
         said
     }

@@ -12,12 +12,13 @@ use Rattle.terms.specs.declared.Row.{Row}
 use Rattle.terms.specs.declared.Tag.TheVariants.{Recipe, WorkOrder, Operator}
 use Rattle.terms.specs.declared.Unit.{Unit as MassUnit}
 use Rattle.terms.proofs.EachPlace.{at_place}
-use Rattle.mlan.specs.Commands.{Said, get_totals, set_settings, get_settings, get_type, set_function, get_functions, get_version, get_units, set_units, set_keypad, set_tag, Reading, reads, faults, read_as}
+use Rattle.mlan.specs.Commands.{Said, set_settings, set_function, set_tag, Reading, reads, faults, read_as}
 use Rattle.mlan.specs.Numbers.{Bytes}
 use Rattle.mlan.specs.Rows.{zero_row, RowsPass}
 use Rattle.mlan.proofs.Codes.{Fits, read_fits}
 use Rattle.blender.specs.Batches.{total, dose, with_dose, turn_bits, turned, filled_total, filled}
-use Rattle.blender.specs.Machines.{Model, new_model, lowers, obeyed, judged_after, concerns, after}
+use Rattle.blender.specs.Machines.{Model, new_model, stored, lowers, obeyed, judged_after, concerns, after}
+use Rattle.blender.specs.declared.settings.Settings.{Settings}
 use Rattle.replies.specs.Machines.{Kept}
 
 zero_rows : (k : KindFacts) → RowsPass k (replicate 12 zero_row)
@@ -46,12 +47,12 @@ dosed : (t : ℕ) (o : Option ℕ) → t < 4294967296 → with_dose t o < 429496
 dosed t None h = h
 dosed t (Some n) h = omega arith
 
+zero_or : (b : Bool) (n : ℕ) → n < 65536 → cond b 0 n < 65536
+zero_or true n h = omega arith
+zero_or false n h = h
+
 bits_small : (sum p : ℕ) → p ≤ 12 → turn_bits sum p < 65536
-bits_small sum p few = go (ltb sum 4294967296)
-  where
-    go : (b : Bool) → cond b 0 (bit_or 1 (2 ^ p)) < 65536
-    go true = omega arith
-    go false = let small : p < 16 = omega arith in or_lt 16 1 (2 ^ p) (omega arith) (pow-lt small)
+bits_small sum p few = let small : p < 16 = omega arith in zero_or (ltb sum 4294967296) (bit_or 1 (2 ^ p)) (or_lt 16 1 (2 ^ p) (omega arith) (pow-lt small))
 
 turned_small : (m : Model) (qs ns : List ℕ) (flags : ℕ) → apart qs ≡ true → flags < 65536 → turned m qs ns flags < 65536
 turned_small m [] ns flags e h = h
@@ -78,127 +79,33 @@ batch_keeps m amounts kept = record {
 }
 
 -- a burst: the flags are as they were or 0, and the settings are as they were but for what was stored
-flags_after : (m : Model) (s : Said) → Kept m → cond (lowers s) 0 m.flags < 65536
-flags_after m s kept = go (lowers s)
-  where
-    go : (b : Bool) → cond b 0 m.flags < 65536
-    go true = omega arith
-    go false = kept.flags_fit
+abbrev SettingsKept : KindFacts → Settings → Type 0
+SettingsKept k s = RowsPass k s.sheet.rows × (s.sheet.recipe < 65536) × (s.sheet.operator ≤ 999) × (s.sheet.order ≤ 999999) × (s.f130 ≤ 12) × (s.f82 ≤ 1)
+
+stored_kept : (k : KindFacts) (s : Settings) (said : Said) → Fits k said → SettingsKept k s → SettingsKept k (stored s said)
+stored_kept k s (set_settings rows recipe operator order) fits h = (fits.0, fits.1, fits.2, fits.3, h.4, h.5)
+stored_kept k s (set_function F130 v) fits h = (h.0, h.1, h.2, h.3, fits, h.5)
+stored_kept k s (set_function F82 v) fits h = (h.0, h.1, h.2, h.3, h.4, fits)
+stored_kept k s (set_tag letters (Recipe v)) fits h = (h.0, fits, h.2, h.3, h.4, h.5)
+stored_kept k s (set_tag letters (Operator v)) fits h = (h.0, h.1, fits, h.3, h.4, h.5)
+stored_kept k s (set_tag letters (WorkOrder v)) fits h = (h.0, h.1, h.2, fits, h.4, h.5)
+stored_kept k s said fits h = h
 
 obeyed_kept : (m : Model) (s : Said) → Fits m.kind s → Kept m → Kept (obeyed m s)
-obeyed_kept m (get_totals reset) fits kept = record {
-  twelve_totals = kept.twelve_totals;
-  totals_fit = kept.totals_fit;
-  cycles_fit = kept.cycles_fit;
-  flags_fit = flags_after m (get_totals reset) kept;
-  rows_fit = kept.rows_fit;
-  recipe_fits = kept.recipe_fits;
-  operator_fits = kept.operator_fits;
-  order_fits = kept.order_fits;
-  f130_fits = kept.f130_fits;
-  f82_fits = kept.f82_fits;
-}
-obeyed_kept m (set_settings rows recipe operator order) fits kept = record {
-  twelve_totals = kept.twelve_totals;
-  totals_fit = kept.totals_fit;
-  cycles_fit = kept.cycles_fit;
-  flags_fit = kept.flags_fit;
-  rows_fit = fits.0;
-  recipe_fits = fits.1;
-  operator_fits = fits.2;
-  order_fits = fits.3;
-  f130_fits = kept.f130_fits;
-  f82_fits = kept.f82_fits;
-}
-obeyed_kept m get_settings fits kept = kept
-obeyed_kept m get_type fits kept = kept
-obeyed_kept m (set_function F82 v) fits kept = record {
-  twelve_totals = kept.twelve_totals;
-  totals_fit = kept.totals_fit;
-  cycles_fit = kept.cycles_fit;
-  flags_fit = kept.flags_fit;
-  rows_fit = kept.rows_fit;
-  recipe_fits = kept.recipe_fits;
-  operator_fits = kept.operator_fits;
-  order_fits = kept.order_fits;
-  f130_fits = kept.f130_fits;
-  f82_fits = fits;
-}
-obeyed_kept m (set_function F130 v) fits kept = record {
-  twelve_totals = kept.twelve_totals;
-  totals_fit = kept.totals_fit;
-  cycles_fit = kept.cycles_fit;
-  flags_fit = kept.flags_fit;
-  rows_fit = kept.rows_fit;
-  recipe_fits = kept.recipe_fits;
-  operator_fits = kept.operator_fits;
-  order_fits = kept.order_fits;
-  f130_fits = fits;
-  f82_fits = kept.f82_fits;
-}
-obeyed_kept m get_functions fits kept = kept
-obeyed_kept m get_version fits kept = kept
-obeyed_kept m get_units fits kept = kept
-obeyed_kept m (set_units units) fits kept = record {
-  twelve_totals = kept.twelve_totals;
-  totals_fit = kept.totals_fit;
-  cycles_fit = kept.cycles_fit;
-  flags_fit = kept.flags_fit;
-  rows_fit = kept.rows_fit;
-  recipe_fits = kept.recipe_fits;
-  operator_fits = kept.operator_fits;
-  order_fits = kept.order_fits;
-  f130_fits = kept.f130_fits;
-  f82_fits = kept.f82_fits;
-}
-obeyed_kept m (set_keypad flag) fits kept = record {
-  twelve_totals = kept.twelve_totals;
-  totals_fit = kept.totals_fit;
-  cycles_fit = kept.cycles_fit;
-  flags_fit = kept.flags_fit;
-  rows_fit = kept.rows_fit;
-  recipe_fits = kept.recipe_fits;
-  operator_fits = kept.operator_fits;
-  order_fits = kept.order_fits;
-  f130_fits = kept.f130_fits;
-  f82_fits = kept.f82_fits;
-}
-obeyed_kept m (set_tag letters (Recipe v)) fits kept = record {
-  twelve_totals = kept.twelve_totals;
-  totals_fit = kept.totals_fit;
-  cycles_fit = kept.cycles_fit;
-  flags_fit = kept.flags_fit;
-  rows_fit = kept.rows_fit;
-  recipe_fits = fits;
-  operator_fits = kept.operator_fits;
-  order_fits = kept.order_fits;
-  f130_fits = kept.f130_fits;
-  f82_fits = kept.f82_fits;
-}
-obeyed_kept m (set_tag letters (WorkOrder v)) fits kept = record {
-  twelve_totals = kept.twelve_totals;
-  totals_fit = kept.totals_fit;
-  cycles_fit = kept.cycles_fit;
-  flags_fit = kept.flags_fit;
-  rows_fit = kept.rows_fit;
-  recipe_fits = kept.recipe_fits;
-  operator_fits = kept.operator_fits;
-  order_fits = fits;
-  f130_fits = kept.f130_fits;
-  f82_fits = kept.f82_fits;
-}
-obeyed_kept m (set_tag letters (Operator v)) fits kept = record {
-  twelve_totals = kept.twelve_totals;
-  totals_fit = kept.totals_fit;
-  cycles_fit = kept.cycles_fit;
-  flags_fit = kept.flags_fit;
-  rows_fit = kept.rows_fit;
-  recipe_fits = kept.recipe_fits;
-  operator_fits = fits;
-  order_fits = kept.order_fits;
-  f130_fits = kept.f130_fits;
-  f82_fits = kept.f82_fits;
-}
+obeyed_kept m s fits kept =
+    let h = stored_kept m.kind m.settings s fits (kept.rows_fit, kept.recipe_fits, kept.operator_fits, kept.order_fits, kept.f130_fits, kept.f82_fits) in
+    record {
+      twelve_totals = kept.twelve_totals;
+      totals_fit = kept.totals_fit;
+      cycles_fit = kept.cycles_fit;
+      flags_fit = zero_or (lowers s) m.flags kept.flags_fit;
+      rows_fit = h.0;
+      recipe_fits = h.1;
+      operator_fits = h.2;
+      order_fits = h.3;
+      f130_fits = h.4;
+      f82_fits = h.5;
+    }
 
 judged_kept : (m : Model) (r : Reading) → ((s : Said) → r ≡ reads s → Fits m.kind s) → Kept m → Kept (judged_after m r)
 judged_kept m (reads s) fits kept = obeyed_kept m s (fits s refl) kept

@@ -1,4 +1,5 @@
 pub mod Fields
 pub mod GivesBack
 pub mod Keeping
+pub mod Shown
 pub mod Telling

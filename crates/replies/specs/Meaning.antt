@@ -2,6 +2,7 @@
 use Rattle.std.specs.Prelude.{Ok, Err, Result}
 use Rattle.faults.specs.declared.BurstFault.{BurstFault}
 use Rattle.faults.specs.declared.MessageFault.{MessageFault}
+use Rattle.terms.specs.Fields.{software_code}
 use Rattle.mlan.specs.Frame.{Framing, framing_of, piece}
 use Rattle.mlan.specs.declared.frame.Frame.{Frame}
 use Rattle.replies.specs.Replies.{Told, acknowledged, totals, settings, system_type, functions, version, display_units, Telling}
@@ -10,9 +11,9 @@ use Rattle.replies.specs.declared.reply.Reply.TheVariants.{Ack, Totals, Settings
 
 abbrev pub told : Reply → Told
 told Ack = acknowledged
-told (Totals reset unit software cycles flags amounts) = totals reset unit software cycles flags amounts
-told (Settings unit mark software rows recipe operator order) = settings unit mark software (piece rows) recipe operator order
-told (SystemType unit software) = system_type unit software
+told (Totals reset unit software counts) = totals reset unit (software_code software) counts.cycles counts.flags counts.totals
+told (Settings unit mark software sheet) = settings unit mark (software_code software) (piece sheet.rows) sheet.recipe sheet.operator sheet.order
+told (SystemType unit software) = system_type unit (software_code software)
 told (Functions f130 f82) = functions f130 f82
 told (Version characters) = version (piece characters)
 told (DisplayUnits units) = display_units units

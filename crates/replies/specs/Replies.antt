@@ -6,8 +6,10 @@ use Rattle.faults.specs.declared.BurstFault.TheVariants.{Nothing, Short, Unsound
 use Rattle.faults.specs.declared.MessageFault.{MessageFault}
 use Rattle.faults.specs.declared.MessageFault.TheVariants.{Burst, OtherAddress, Nak, OtherCode, Malformed}
 use Rattle.kinds.specs.Kinds.{KindFacts, four_facts, twelve_facts, all_characters}
-use Rattle.terms.specs.Fields.{units_of}
+use Rattle.terms.specs.Fields.{unit_of, software_code, software_of, units_of}
 use Rattle.terms.specs.Places.{each_place}
+use Rattle.terms.specs.declared.Software.{Software}
+use Rattle.terms.specs.declared.Software.TheVariants.{Four as FourSoftware, Twelve as TwelveSoftware}
 use Rattle.terms.specs.declared.Unit.{Unit as MassUnit}
 use Rattle.terms.specs.declared.Unit.TheVariants.{Tenths, Grams}
 use Rattle.terms.specs.declared.WeightUnits.{WeightUnits}
@@ -46,32 +48,27 @@ abbrev pub field : {X : Type 0} → ℕ → Option X → (X → Telling) → Tel
 field at None next = Err (Malformed at)
 field at (Some x) next = next x
 
--- the system byte: 2 for tenths of grams, 9 for grams; in a settings reply one more while the change mark is up
-abbrev pub unit_of : ℕ → Option MassUnit
-unit_of n = cond (n == 2) (Some Tenths) (cond (n == 9) (Some Grams) None)
-
+-- the system byte of a settings reply: one more than the unit's while the change mark is up
 abbrev pub marked_of : ℕ → Option (MassUnit × Bool)
 marked_of n = cond (n == 2) (Some (Tenths, false)) (cond (n == 3) (Some (Tenths, true)) (cond (n == 9) (Some (Grams, false)) (cond (n == 10) (Some (Grams, true)) None)))
 
-abbrev pub is_software : ℕ → Bool
-is_software n = n == 4 || n == 12
-
-abbrev pub software_of : ℕ → Option ℕ
-software_of n = cond (is_software n) (Some n) None
-
 -- the total of place p stands at byte 4 p + 6 of the burst, two bytes earlier in its data
+abbrev pub total_at : List ℕ → ℕ → ℕ
+total_at bytes p = four_at bytes (4 * p + 4)
+
 unfoldable pub totals_in : List ℕ → List ℕ
-totals_in bytes = each_place (λ p. four_at bytes (4 * p + 4))
+totals_in bytes = each_place (total_at bytes)
 
 abbrev pub as_totals : Bool → List ℕ → Telling
 as_totals reset bytes =
     sized 56 bytes
     (field 2 (unit_of (slice_index bytes 0)) λ unit.
-    field 3 (software_of (slice_index bytes 1)) λ software. Ok (totals reset unit software (two_at bytes 4) (two_at bytes 6) (totals_in bytes)))
+    field 3 (software_of (slice_index bytes 1)) λ software. Ok (totals reset unit (software_code software) (two_at bytes 4) (two_at bytes 6) (totals_in bytes)))
 
 -- with software 4, rows 2 and 5 to 12 and every type are 0
-abbrev pub shown_facts : ℕ → KindFacts
-shown_facts software = cond (software == 4) four_facts twelve_facts
+abbrev pub shown_facts : Software → KindFacts
+shown_facts FourSoftware = four_facts
+shown_facts TwelveSoftware = twelve_facts
 
 abbrev pub shown_rows : List ℕ → Piece
 shown_rows bytes = record { at = 4; bytes = take 36 (drop 2 bytes) }
@@ -81,10 +78,10 @@ unless_fault None next = next
 unless_fault (Some byte) next = Err (Malformed byte)
 
 -- operator and work order stand behind the rows and the recipe
-abbrev pub behind_rows : MassUnit × Bool → ℕ → List ℕ → Telling
+abbrev pub behind_rows : MassUnit × Bool → Software → List ℕ → Telling
 behind_rows marked software bytes =
     field 42 (within 999 (two_at bytes 40)) λ operator.
-    field 44 (within 999999 (four_at bytes 42)) λ order. Ok (settings marked.0 marked.1 software (shown_rows bytes) (two_at bytes 38) operator order)
+    field 44 (within 999999 (four_at bytes 42)) λ order. Ok (settings marked.0 marked.1 (software_code software) (shown_rows bytes) (two_at bytes 38) operator order)
 
 abbrev pub as_settings : List ℕ → Telling
 as_settings bytes =
@@ -93,7 +90,7 @@ as_settings bytes =
     field 3 (software_of (slice_index bytes 1)) λ software. unless_fault (rows_fault (shown_facts software) (shown_rows bytes)) (behind_rows marked software bytes))
 
 abbrev pub as_type : List ℕ → Telling
-as_type bytes = sized 2 bytes (field 2 (unit_of (slice_index bytes 0)) λ unit. field 3 (software_of (slice_index bytes 1)) λ software. Ok (system_type unit software))
+as_type bytes = sized 2 bytes (field 2 (unit_of (slice_index bytes 0)) λ unit. field 3 (software_of (slice_index bytes 1)) λ software. Ok (system_type unit (software_code software)))
 
 abbrev labelled : ℕ → ℕ → Option ℕ
 labelled label n = cond (n == label) (Some n) None
@@ -156,5 +153,5 @@ received None = Err Nothing
 received (Some b) = cond (nat_lt (length b) 3) (Err (Short (length b))) (cond (is_sound b) (Ok (whole_frame b)) (Err (Unsound (length b - 1))))
 
 -- what the line gave, as the reply to a question
-unfoldable pub understood : Asked → Option (List ℕ) → Telling
+abbrev pub understood : Asked → Option (List ℕ) → Telling
 understood asked taken = carried Burst (judged asked) (received taken)

@@ -4,7 +4,7 @@ ghost use Rattle.mlan.specs.Frame.{framing_of};
 ghost use Rattle.replies.specs.Replies.{is_setting, received, as_short, judged, understood};
 ghost use Rattle.replies.specs.Meaning.{telling, frame_told};
 
-use super::read::read_data;
+use super::read::{length_fault, read_data};
 use super::reply::{Asked, Reply};
 use faults::{BurstFault, MessageFault};
 use mlan::checksum::sound;
@@ -18,27 +18,20 @@ fn is_setting(code: u8) -> bool
 }
 
 // What the line gave, as the frame of a sound burst.
-pub fn received<'a>(taken: Option<&'a [u8]>) -> Result<Frame<'a>, BurstFault>
+pub fn received(taken: Option<&[u8]>) -> Result<Frame<'_>, BurstFault>
     ensures { frame_told result ≡ received (option_map (λ x. x.now) taken.entry) }
 {
-    let Some(burst) = taken else {
-        return Err(BurstFault::Nothing);
-    };
+    let burst = taken.ok_or(BurstFault::Nothing)?;
     let length = burst.len();
-    if length < 3 {
-        return Err(BurstFault::Short { length });
-    }
+    let frame = Frame::split(burst).ok_or(BurstFault::Short { length })?;
     if !sound(burst) {
         return Err(BurstFault::Unsound { at: length - 1 });
     }
-    match Frame::split(burst) {
-        Some(frame) => Ok(frame),
-        None => Err(BurstFault::Short { length }),
-    }
+    Ok(frame)
 }
 
 // A reply of code 48: ACK or NAK.
-fn read_short<'a>(asked: Asked, bytes: &[u8]) -> Result<Reply<'a>, MessageFault>
+fn read_short(asked: Asked, bytes: &[u8]) -> Result<Reply<'_>, MessageFault>
     ensures { telling result ≡ as_short asked bytes.now }
 {
     match bytes {
@@ -46,13 +39,11 @@ fn read_short<'a>(asked: Asked, bytes: &[u8]) -> Result<Reply<'a>, MessageFault>
         [6] if is_setting(asked.code) => Ok(Reply::Ack),
         [6] => Err(MessageFault::OtherCode),
         [_] => Err(MessageFault::Malformed { at: 2 }),
-        _ => Err(MessageFault::Malformed {
-            at: bytes.len() + 3,
-        }),
+        _ => Err(length_fault(bytes)),
     }
 }
 
-fn judge<'a>(asked: Asked, frame: Frame<'a>) -> Result<Reply<'a>, MessageFault>
+fn judge(asked: Asked, frame: Frame<'_>) -> Result<Reply<'_>, MessageFault>
     ensures { telling result ≡ judged asked (framing_of frame.entry) }
 {
     if frame.address != asked.address {
@@ -68,7 +59,7 @@ fn judge<'a>(asked: Asked, frame: Frame<'a>) -> Result<Reply<'a>, MessageFault>
 }
 
 // What the line gave, as the reply to a question.
-pub fn understood<'a>(asked: Asked, taken: Option<&'a [u8]>) -> Result<Reply<'a>, MessageFault>
+pub fn understood(asked: Asked, taken: Option<&[u8]>) -> Result<Reply<'_>, MessageFault>
     ensures { telling result ≡ understood asked (option_map (λ x. x.now) taken.entry) }
 {
     let frame = received(taken)?;

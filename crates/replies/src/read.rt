@@ -1,8 +1,8 @@
-ghost use Rattle.std.specs.Prelude.{◌≡◌, ◌+◌, cond, length, Ok};
-ghost use Rattle.kinds.specs.Kinds.{is_character, all_characters};
+ghost use Rattle.std.specs.Prelude.{◌≡◌, ◌+◌, ◌≤◌, length};
+ghost use Rattle.kinds.specs.Kinds.{all_characters};
 ghost use Rattle.mlan.specs.Frame.{piece};
 ghost use Rattle.mlan.specs.Rows.{rows_fault};
-ghost use Rattle.replies.specs.Replies.{unit_of, marked_of, is_software, totals_in, shown_facts, as_totals, as_settings, as_type, as_functions, as_version, as_units, told_by};
+ghost use Rattle.replies.specs.Replies.{marked_of, total_at, totals_in, shown_facts, as_totals, as_settings, as_type, as_functions, as_version, as_units, told_by};
 ghost use Rattle.replies.specs.Meaning.{telling};
 
 use super::reply::Reply;
@@ -10,10 +10,12 @@ use faults::MessageFault;
 use kinds::{Four, Twelve};
 use mlan::frame::Part;
 use rows::rows_fault;
-use terms::{Unit, WeightUnits};
+use std::array;
+use terms::{Counts, Sheet, Software, Unit, WeightUnits};
 
-// The fault of data of a wrong length: the burst has three bytes more.
-fn length_fault(bytes: &[u8]) -> MessageFault
+// The fault of data of a wrong length: the burst has three bytes more. `commands` has the same
+// two lines with another fault; a trait for both faults would be longer than both.
+pub(crate) fn length_fault(bytes: &[u8]) -> MessageFault
     ensures { result ≡ MessageFault.Malformed (length bytes.now + 3) }
 {
     MessageFault::Malformed {
@@ -21,17 +23,8 @@ fn length_fault(bytes: &[u8]) -> MessageFault
     }
 }
 
-fn unit_of(system: u8) -> Option<Unit>
-    ensures { result ≡ unit_of system }
-{
-    match system {
-        2 => Some(Unit::Tenths),
-        9 => Some(Unit::Grams),
-        _ => None,
-    }
-}
-
-// In a settings reply the system byte tells the change mark too.
+// In a settings reply the system byte tells the change mark too. A unit with a mark is no type
+// of ours, so that this is no `TryFrom`.
 fn marked_of(system: u8) -> Option<(Unit, bool)>
     ensures { result ≡ marked_of system }
 {
@@ -44,10 +37,14 @@ fn marked_of(system: u8) -> Option<(Unit, bool)>
     }
 }
 
-fn is_software(software: u8) -> bool
-    ensures { result ≡ is_software software }
+// The total of a place, 1 to 12.
+fn total_at(bytes: &[u8], place: usize) -> u32
+    requires whole { length bytes.now ≡ 56 }
+    requires within { (1 ≤ place) × (place ≤ 12) }
+    ensures { result ≡ total_at bytes.now place }
 {
-    software == 4 || software == 12
+    let at = 4 * place + 4;
+    u32::from_be_bytes([bytes[at], bytes[at + 1], bytes[at + 2], bytes[at + 3]])
 }
 
 // The twelve totals of a totals reply.
@@ -55,12 +52,7 @@ fn totals_in(bytes: &[u8]) -> [u32; 12]
     requires { length bytes.now ≡ 56 }
     ensures { result ≡ totals_in bytes.now }
 {
-    let mut totals = [0; 12];
-    for i in 0..12 {
-        let at = 8 + 4 * i;
-        totals[i] = u32::from_be_bytes([bytes[at], bytes[at + 1], bytes[at + 2], bytes[at + 3]]);
-    }
-    totals
+    array::from_fn(|i| total_at(bytes, i + 1))
 }
 
 fn read_totals(reset: bool, bytes: &[u8]) -> Result<Reply<'_>, MessageFault>
@@ -69,34 +61,37 @@ fn read_totals(reset: bool, bytes: &[u8]) -> Result<Reply<'_>, MessageFault>
     if bytes.len() != 56 {
         return Err(length_fault(bytes));
     }
-    let Some(unit) = unit_of(bytes[0]) else {
+    let Ok(unit) = Unit::try_from(bytes[0]) else {
         return Err(MessageFault::Malformed { at: 2 });
     };
-    let software = bytes[1];
-    if !is_software(software) {
+    let Ok(software) = Software::try_from(bytes[1]) else {
         return Err(MessageFault::Malformed { at: 3 });
-    }
+    };
+    let counts = Counts {
+        totals: totals_in(bytes),
+        cycles: u16::from_be_bytes([bytes[4], bytes[5]]),
+        flags: u16::from_be_bytes([bytes[6], bytes[7]]),
+    };
     Ok(Reply::Totals {
         reset,
         unit,
         software,
-        cycles: u16::from_be_bytes([bytes[4], bytes[5]]),
-        flags: u16::from_be_bytes([bytes[6], bytes[7]]),
-        totals: totals_in(bytes),
+        counts,
     })
 }
 
 // The first byte of the first field of the rows that a reply with this software cannot show.
-fn shown_rows_fault(software: u8, rows: Part<'_>) -> Option<usize>
+fn shown_rows_fault(software: Software, rows: Part<'_>) -> Option<usize>
     ensures { result ≡ rows_fault (shown_facts software) (piece rows.entry) }
 {
-    if software == 4 {
-        rows_fault::<Four>(rows)
-    } else {
-        rows_fault::<Twelve>(rows)
+    match software {
+        Software::Four => rows_fault::<Four>(rows),
+        Software::Twelve => rows_fault::<Twelve>(rows),
     }
 }
 
+// Recipe, operator and work order stand two bytes before those of a settings command. Reading
+// both by one function would want a definition that holds for any part and place, longer than both.
 fn read_settings(bytes: &[u8]) -> Result<Reply<'_>, MessageFault>
     ensures { telling result ≡ as_settings bytes.now }
 {
@@ -106,10 +101,9 @@ fn read_settings(bytes: &[u8]) -> Result<Reply<'_>, MessageFault>
     let Some((unit, mark)) = marked_of(bytes[0]) else {
         return Err(MessageFault::Malformed { at: 2 });
     };
-    let software = bytes[1];
-    if !is_software(software) {
+    let Ok(software) = Software::try_from(bytes[1]) else {
         return Err(MessageFault::Malformed { at: 3 });
-    }
+    };
     let rows = Part {
         at: 4,
         bytes: &bytes[2..38],
@@ -129,10 +123,12 @@ fn read_settings(bytes: &[u8]) -> Result<Reply<'_>, MessageFault>
         unit,
         mark,
         software,
-        rows,
-        recipe: u16::from_be_bytes([bytes[38], bytes[39]]),
-        operator,
-        order,
+        sheet: Sheet {
+            rows,
+            recipe: u16::from_be_bytes([bytes[38], bytes[39]]),
+            operator,
+            order,
+        },
     })
 }
 
@@ -142,16 +138,13 @@ fn read_type(bytes: &[u8]) -> Result<Reply<'_>, MessageFault>
     let [system, software] = bytes else {
         return Err(length_fault(bytes));
     };
-    let Some(unit) = unit_of(*system) else {
+    let Ok(unit) = Unit::try_from(*system) else {
         return Err(MessageFault::Malformed { at: 2 });
     };
-    if !is_software(*software) {
+    let Ok(software) = Software::try_from(*software) else {
         return Err(MessageFault::Malformed { at: 3 });
-    }
-    Ok(Reply::SystemType {
-        unit,
-        software: *software,
-    })
+    };
+    Ok(Reply::SystemType { unit, software })
 }
 
 // The labels 130 and 82 are tested, the zeros behind their values are not.
@@ -179,21 +172,10 @@ fn read_functions(bytes: &[u8]) -> Result<Reply<'_>, MessageFault>
     })
 }
 
-fn is_character(byte: u8) -> bool
-    ensures { result ≡ is_character byte }
-{
-    byte >= 32 && byte <= 126
-}
-
 fn all_characters(bytes: &[u8]) -> bool
     ensures { result ≡ all_characters bytes.now }
 {
-    for byte in bytes {
-        if !is_character(*byte) {
-            return false;
-        }
-    }
-    true
+    bytes.iter().all(|byte| matches!(*byte, 32..=126))
 }
 
 // A version is one field, named by its first byte.
@@ -211,16 +193,17 @@ fn read_version(bytes: &[u8]) -> Result<Reply<'_>, MessageFault>
     })
 }
 
+// `commands` reads the same byte of a command; the two differ in what they make and in the fault.
 fn read_units(bytes: &[u8]) -> Result<Reply<'_>, MessageFault>
     ensures { telling result ≡ as_units bytes.now }
 {
     let [code] = bytes else {
         return Err(length_fault(bytes));
     };
-    match WeightUnits::from_code(*code) {
-        Some(units) => Ok(Reply::DisplayUnits { units }),
-        None => Err(MessageFault::Malformed { at: 2 }),
-    }
+    let Ok(units) = WeightUnits::try_from(*code) else {
+        return Err(MessageFault::Malformed { at: 2 });
+    };
+    Ok(Reply::DisplayUnits { units })
 }
 
 // The reply of a code with its data.

@@ -3,11 +3,12 @@
 
 ghost use Rattle.std.specs.Prelude.{◌≡◌, ◌≤◌, IfSome};
 ghost use Rattle.mlan.specs.Frame.{piece};
-ghost use Rattle.mlan.specs.Rows.{is_whole, row_found, greatest_type, greatest_setting, row_fault, rows_fault, row_of, rows_in};
+ghost use Rattle.mlan.specs.Rows.{is_whole, row_found, greatest_type, greatest_setting, row_fault, found_fault, rows_fault, row_of, row_at, rows_in};
 ghost use Rattle.rows.specs.Parts.{row_told};
 
 use kinds::Kind;
 use mlan::frame::Part;
+use std::array;
 use terms::Row;
 
 fn whole(rows: Part<'_>) -> bool
@@ -35,11 +36,7 @@ pub fn row_part<'a>(rows: Part<'a>, row: usize) -> Option<Part<'a>>
 fn greatest_type<K: Kind>(row: usize) -> u8
     ensures { result ≡ greatest_type K.Kind.facts row }
 {
-    if K::holds(row) {
-        K::greatest_material()
-    } else {
-        0
-    }
+    if K::holds(row) { K::MATERIALS } else { 0 }
 }
 
 fn greatest_setting<K: Kind>(row: usize) -> u16
@@ -49,7 +46,7 @@ fn greatest_setting<K: Kind>(row: usize) -> u16
 }
 
 // The first byte of the first field of a row that is not the kind's.
-fn row_fault<K: Kind>(row: usize, part: Part<'_>) -> Option<usize>
+fn part_fault<K: Kind>(row: usize, part: Part<'_>) -> Option<usize>
     requires { part.at ≤ 97 }
     ensures { result ≡ row_fault K.Kind.facts row (piece part.entry) }
 {
@@ -65,15 +62,21 @@ fn row_fault<K: Kind>(row: usize, part: Part<'_>) -> Option<usize>
     None
 }
 
+fn row_fault<K: Kind>(rows: Part<'_>, row: usize) -> Option<usize>
+    ensures { result ≡ found_fault K.Kind.facts row (piece rows.entry) (row_found (piece rows.entry) row) }
+{
+    match row_part(rows, row) {
+        Some(part) => part_fault::<K>(row, part),
+        None => Some(rows.at),
+    }
+}
+
 // The same of all twelve rows, from first to last.
 pub fn rows_fault<K: Kind>(rows: Part<'_>) -> Option<usize>
     ensures { result ≡ rows_fault K.Kind.facts (piece rows.entry) }
 {
     for row in 1..13 {
-        let Some(part) = row_part(rows, row) else {
-            return Some(rows.at);
-        };
-        if let Some(byte) = row_fault::<K>(row, part) {
+        if let Some(byte) = row_fault::<K>(rows, row) {
             return Some(byte);
         }
     }
@@ -84,34 +87,30 @@ pub fn rows_fault<K: Kind>(rows: Part<'_>) -> Option<usize>
 fn row_of(part: Option<Part<'_>>) -> Row
     ensures { result ≡ row_of (row_told part.entry) }
 {
-    match part {
-        Some(part) => match part.bytes {
-            [material, high, low] => Row {
-                material: *material,
-                setting: u16::from_be_bytes([*high, *low]),
-            },
-            _ => Row {
-                material: 0,
-                setting: 0,
-            },
+    let Some(
+        Part {
+            bytes: [material, high, low],
+            ..
         },
-        None => Row {
-            material: 0,
-            setting: 0,
-        },
+    ) = part
+    else {
+        return Row::default();
+    };
+    Row {
+        material: *material,
+        setting: u16::from_be_bytes([*high, *low]),
     }
+}
+
+fn row_at(rows: Part<'_>, row: usize) -> Row
+    ensures { result ≡ row_at (piece rows.entry) row }
+{
+    row_of(row_part(rows, row))
 }
 
 // All twelve rows.
 pub fn rows_in(rows: Part<'_>) -> [Row; 12]
     ensures { result ≡ rows_in (piece rows.entry) }
 {
-    let mut all = [Row {
-        material: 0,
-        setting: 0,
-    }; 12];
-    for i in 0..12 {
-        all[i] = row_of(row_part(rows, i + 1));
-    }
-    all
+    array::from_fn(|i| row_at(rows, i + 1))
 }

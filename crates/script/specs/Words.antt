@@ -1,6 +1,5 @@
 -- The words of a line: runs of bytes with white space between them.
-use Rattle.std.specs.Prelude.{ℕ, suc, Bool, cond, ◌&&◌, ◌||◌, List, [], ◌∷◌, ◌==◌, nat_le}
-use Rattle.std.specs.Bool.{beq}
+use Rattle.std.specs.Prelude.{ℕ, Bool, cond, ◌&&◌, ◌||◌, List, [], ◌∷◌, ◌==◌, nat_le}
 
 -- a space, or a control character from tab to carriage return
 abbrev pub is_blank : ℕ → Bool
@@ -24,8 +23,3 @@ front (c ∷ cs) = cond (is_blank c) (record { run = []; behind = all_words (fro
 
 abbrev pub words : List ℕ → List (List ℕ)
 words line = all_words (front line)
-
--- how many bytes at the front are blank, or are not
-abbrev pub run_length : Bool → List ℕ → ℕ
-run_length blank [] = 0
-run_length blank (c ∷ cs) = cond (beq (is_blank c) blank) (suc (run_length blank cs)) 0

@@ -1,47 +1,78 @@
 // Lines of a script: words, and numbers in base ten.
 #![tactic(auto)]
 
-ghost use Rattle.std.specs.Prelude.{◌≡◌, ℕ, ◌<◌, ◌≤◌, [], ◌∷◌, map, length, IfSome, Some, None, MatchOption};
-ghost use Rattle.std.specs.Option.{option_map};
+ghost use Rattle.std.specs.Prelude.{◌≡◌, ℕ, ◌≤◌, List, map, length, IfSome, Some, None, slice_get};
+ghost use Rattle.std.specs.Iterator.{YieldsFirstRef, at_most};
+ghost use Rattle.std.specs.Option.{option_map, option_copied};
 ghost use Rattle.std.specs.Str.{bytes_eq};
 ghost use Rattle.script.specs.declared.LineFault.TheVariants.{Memory};
 ghost use Rattle.script.specs.Faults.{Listed};
-ghost use Rattle.script.specs.Words.{is_blank, words, run_length};
-ghost use Rattle.script.specs.Numerals.{is_digit, number_in, numbers_in};
+ghost use Rattle.script.specs.Words.{is_blank, words};
+ghost use Rattle.script.specs.Numerals.{number_in, numbers_in};
 
 use std::alloc::{AllocError, AllocFailed, Global};
+use std::marker::Model;
 
-fn blank(byte: u8) -> bool
+fn is_blank(byte: u8) -> bool
     ensures { result ≡ is_blank byte }
 {
     matches!(byte, b' ' | 9..=13)
 }
 
-// How many bytes at the front are blank, or are not.
-fn front_run(line: &[u8], of_blanks: bool) -> usize
-    ensures count { result ≡ run_length of_blanks line.now }
-    ensures within { result ≤ length line.now }
-{
-    for (i, byte) in line.iter().enumerate() {
-        if blank(*byte) != of_blanks {
-            return i;
-        }
-    }
-    line.len()
+// The words of a line, from left to right.
+#[derive(Drop)]
+pub struct Words<'a> {
+    left: &'a [u8],
 }
 
-// The first word of a line and what is behind it; none where the line is blank.
-pub fn split_word(line: &[u8]) -> Option<(&[u8], &[u8])>
-    ensures words { MatchOption result (words line.now ≡ []) (λ p. words line.now ≡ p.0.now ∷ words p.1.now) }
-    ensures shorter { IfSome result (λ p. length p.1.now < length line.now) }
-{
-    let start = front_run(line, true);
-    if start == line.len() {
-        return None;
+// Words are seen as the bytes that they are taken from.
+impl<'a> Model for Words<'a> {
+    ghost Value = { List ℕ };
+
+    ghost view = { λ w. w.left.now };
+}
+
+impl<'a> Words<'a> {
+    pub fn of(line: &'a [u8]) -> Words<'a>
+        ensures { result ≡ line.now }
+    {
+        Words { left: line }
     }
-    let tail = &line[start..];
-    let end = front_run(tail, false);
-    Some((&tail[0..end], &tail[end..]))
+
+    // The next word, which is left in its place.
+    pub fn peek(&self) -> Option<&'a [u8]>
+        ensures { option_copied result ≡ slice_get (words self.now) 0 }
+    {
+        Words::of(self.rest()).next()
+    }
+
+    // What is behind the words that were taken.
+    pub fn rest(&self) -> &'a [u8]
+        ensures { result.now ≡ self.now }
+    {
+        self.left
+    }
+}
+
+impl<'a> Iterator for Words<'a> {
+    type Item = &'a [u8];
+
+    ghost next_gives = { YieldsFirstRef words };
+
+    ghost remaining = { λ w. at_most (length w) };
+
+    fn next(&mut self) -> Option<&'a [u8]> {
+        let line = self.rest();
+        let start = line.iter().position(|byte| !is_blank(*byte))?;
+        let tail = &line[start..];
+        let end = tail
+            .iter()
+            .position(|byte| is_blank(*byte))
+            .unwrap_or(tail.len());
+        let (word, behind) = tail.split_at(end);
+        *self = Words::of(behind);
+        Some(word)
+    }
 }
 
 // Whether a word is this text.
@@ -49,12 +80,6 @@ pub fn says(word: &[u8], text: &str) -> bool
     ensures { result ≡ bytes_eq word.now text.now }
 {
     word == text.as_bytes()
-}
-
-fn digit(byte: u8) -> bool
-    ensures { result ≡ is_digit byte }
-{
-    byte >= b'0' && byte <= b'9'
 }
 
 // The number that a word says, if it is one and does not pass the limit.
@@ -67,7 +92,7 @@ pub fn number(word: &[u8], limit: u32) -> Option<u32>
     }
     let mut value: u64 = 0;
     for byte in word {
-        if !digit(*byte) {
+        if !byte.is_ascii_digit() {
             return None;
         }
         value = value * 10 + u64::from(*byte - b'0');
@@ -78,7 +103,8 @@ pub fn number(word: &[u8], limit: u32) -> Option<u32>
     Some(value as u32)
 }
 
-// A type of numbers that a line can list.
+// A type of numbers that a line can list. Each has its own `from_word`: one body for all would
+// have to ask for a way from a `u32` to any such type, with a law, which is longer than both.
 pub trait Numeral: Sized {
     ghost limit: { ℕ };
 
@@ -94,10 +120,7 @@ impl Numeral for u8 {
     ghost value = { λ n. n };
 
     fn from_word(word: &[u8]) -> Option<u8> {
-        match number(word, 255) {
-            Some(n) => Some(n as u8),
-            None => None,
-        }
+        number(word, 255).map(|n| n as u8)
     }
 }
 
@@ -112,7 +135,7 @@ impl Numeral for u32 {
 }
 
 // Why a line could not be read.
-#[derive(Clone, Copy)]
+#[derive(Clone, Copy, Debug, PartialEq, Eq)]
 pub enum LineFault {
     NotUnderstood,
     Memory,
@@ -139,13 +162,8 @@ pub fn numbers<T: Numeral + Drop>(heap: Global, line: &[u8]) -> Result<Vec<T>, L
     ensures { Listed result (λ v. numbers_in T.Numeral.limit (words line.now) ≡ Some (map T.Numeral.value v.items)) (numbers_in T.Numeral.limit (words line.now) ≡ None) }
 {
     let mut all = Vec::new(heap);
-    let mut rest = line;
-    while let Some((word, behind)) = split_word(rest) {
-        let Some(n) = T::from_word(word) else {
-            return Err(LineFault::NotUnderstood);
-        };
-        all.push(n)?;
-        rest = behind;
+    for word in Words::of(line) {
+        all.push(T::from_word(word).ok_or(LineFault::NotUnderstood)?)?;
     }
     Ok(all)
 }

@@ -3,9 +3,9 @@ use Rattle.std.proofs.Common.{◌≡◌, ℕ, Bool, true, false, cond, eqb, List
 use Rattle.terms.specs.Addresses.{is_address}
 use Rattle.terms.specs.declared.Refusal.{Refusal}
 use Rattle.terms.specs.declared.Refusal.TheVariants.{NoAddress, NoMachine, WrongCount, TooLarge}
-use Rattle.blender.specs.Batches.{amounts_answer, all_within, filled}
+use Rattle.blender.specs.Batches.{amounts_answer, all_within, filled, if_accepted}
 use Rattle.blender.specs.Machines.{Model}
-use Rattle.segment.specs.Drops.{when_accepted, leftmost, machine_answer, drop_answer, leftmost_filled, drop_batched}
+use Rattle.segment.specs.Drops.{leftmost, machine_answer, drop_answer, leftmost_filled, drop_batched}
 
 abbrev Answer : Type 0
 Answer = Result (Unit {0}) Refusal
@@ -55,9 +55,9 @@ module _ (a : ℕ) (ns : List ℕ) where
       → (drop_answer a ns ys ≡ drop_answer a ns (xs ++ ys)) × (drop_batched a ns xs ++ drop_batched a ns ys ≡ drop_batched a ns (xs ++ ys))
   batch_right xs ys e = (
     sym same,
-    ap (λ r. when_accepted r (leftmost_filled a ns xs) xs ++ drop_batched a ns ys) e
+    ap (λ r. if_accepted r (leftmost_filled a ns xs) xs ++ drop_batched a ns ys) e
         ∙ both (drop_answer a ns ys)
-        ∙ ap (λ r. when_accepted r (leftmost_filled a ns (xs ++ ys)) (xs ++ ys)) (sym same),
+        ∙ ap (λ r. if_accepted r (leftmost_filled a ns (xs ++ ys)) (xs ++ ys)) (sym same),
   )
     where
       past : (leftmost a (xs ++ ys) ≡ leftmost a ys) × (leftmost_filled a ns (xs ++ ys) ≡ xs ++ leftmost_filled a ns ys)
@@ -66,7 +66,7 @@ module _ (a : ℕ) (ns : List ℕ) where
       same : drop_answer a ns (xs ++ ys) ≡ drop_answer a ns ys
       same = ap (by_test (is_address a)) past.0
 
-      both : (r : Answer) → xs ++ when_accepted r (leftmost_filled a ns ys) ys ≡ when_accepted r (leftmost_filled a ns (xs ++ ys)) (xs ++ ys)
+      both : (r : Answer) → xs ++ if_accepted r (leftmost_filled a ns ys) ys ≡ if_accepted r (leftmost_filled a ns (xs ++ ys)) (xs ++ ys)
       both (Ok x) = sym past.1
       both (Err f) = refl
 
@@ -75,7 +75,7 @@ module _ (a : ℕ) (ns : List ℕ) where
       → (drop_answer a ns xs ≡ drop_answer a ns (xs ++ ys)) × (drop_batched a ns xs ++ ys ≡ drop_batched a ns (xs ++ ys))
   batch_left xs ys there' = go (is_address a) (leftmost a xs) refl refl
     where
-      both : (r : Answer) → leftmost_filled a ns (xs ++ ys) ≡ leftmost_filled a ns xs ++ ys → when_accepted r (leftmost_filled a ns xs) xs ++ ys ≡ when_accepted r (leftmost_filled a ns (xs ++ ys)) (xs ++ ys)
+      both : (r : Answer) → leftmost_filled a ns (xs ++ ys) ≡ leftmost_filled a ns xs ++ ys → if_accepted r (leftmost_filled a ns xs) xs ++ ys ≡ if_accepted r (leftmost_filled a ns (xs ++ ys)) (xs ++ ys)
       both (Ok x) f = sym f
       both (Err f) g = refl
 
@@ -84,8 +84,8 @@ module _ (a : ℕ) (ns : List ℕ) where
       go true (Some n) g l =
           let w = at_left xs ys n l in
           let same : drop_answer a ns xs ≡ drop_answer a ns (xs ++ ys) = ap (by_test (is_address a)) (l ∙ sym w.0) in
-          (same, both (drop_answer a ns xs) w.1 ∙ ap (λ r. when_accepted r (leftmost_filled a ns (xs ++ ys)) (xs ++ ys)) same)
+          (same, both (drop_answer a ns xs) w.1 ∙ ap (λ r. if_accepted r (leftmost_filled a ns (xs ++ ys)) (xs ++ ys)) same)
       go false o g l =
           let p : drop_answer a ns xs ≡ Err NoAddress = ap (λ t. by_test t (leftmost a xs)) g in
           let q : drop_answer a ns (xs ++ ys) ≡ Err NoAddress = ap (λ t. by_test t (leftmost a (xs ++ ys))) g in
-          (p ∙ sym q, ap (λ r. when_accepted r (leftmost_filled a ns xs) xs ++ ys) p ∙ sym (ap (λ r. when_accepted r (leftmost_filled a ns (xs ++ ys)) (xs ++ ys)) q))
+          (p ∙ sym q, ap (λ r. if_accepted r (leftmost_filled a ns xs) xs ++ ys) p ∙ sym (ap (λ r. if_accepted r (leftmost_filled a ns (xs ++ ys)) (xs ++ ys)) q))

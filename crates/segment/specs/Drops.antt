@@ -1,9 +1,9 @@
 -- A drop: what the machines on a cable, from left to right, do with a batch and with a burst.
-use Rattle.std.specs.Prelude.{ℕ, cond, List, [], ◌∷◌, map, Some, None, Ok, Err, Option, Result, ◌==◌}
+use Rattle.std.specs.Prelude.{ℕ, cond, List, [], ◌∷◌, map, Some, None, Err, Option, Result, ◌==◌}
 use Rattle.terms.specs.Addresses.{is_address}
 use Rattle.terms.specs.declared.Refusal.{Refusal}
 use Rattle.terms.specs.declared.Refusal.TheVariants.{NoAddress, NoMachine}
-use Rattle.blender.specs.Batches.{amounts_answer, filled}
+use Rattle.blender.specs.Batches.{amounts_answer, filled, if_accepted}
 use Rattle.blender.specs.Machines.{Model, reply, after}
 
 -- the leftmost machine of an address
@@ -24,12 +24,8 @@ leftmost_filled a amounts [] = []
 leftmost_filled a amounts (m ∷ ms) = cond (a == m.address) (filled m amounts ∷ ms) (m ∷ leftmost_filled a amounts ms)
 
 -- a refusal changes no machine
-abbrev pub when_accepted : Result (Unit {0}) Refusal → List Model → List Model → List Model
-when_accepted (Ok x) new old = new
-when_accepted (Err refusal) new old = old
-
 abbrev pub drop_batched : ℕ → List ℕ → List Model → List Model
-drop_batched a amounts ms = when_accepted (drop_answer a amounts ms) (leftmost_filled a amounts ms) ms
+drop_batched a amounts ms = if_accepted (drop_answer a amounts ms) (leftmost_filled a amounts ms) ms
 
 -- a burst is shown to all: each machine that it concerns obeys
 abbrev pub shown : List ℕ → List Model → List Model

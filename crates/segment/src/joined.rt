@@ -1,6 +1,6 @@
 ghost use Rattle.std.specs.Prelude.{◌≡◌, ◌++◌};
 
-use super::segment::{Said, Segment, join};
+use super::segment::{Said, Segment};
 use terms::Refusal;
 
 // Two drops joined, the left one first.
@@ -25,6 +25,7 @@ impl<A: Segment, B: Segment> Segment for Joined<A, B> {
     fn batch(&mut self, address: u8, amounts: &[u32]) -> Result<(), Refusal> {
         match self.left.batch(address, amounts) {
             Ok(()) => Ok(()),
+            // a match of its own, which tells the proof that another refusal is not `NoMachine`
             Err(refusal) => match refusal {
                 Refusal::NoMachine => self.right.batch(address, amounts),
                 other => Err(other),
@@ -32,10 +33,9 @@ impl<A: Segment, B: Segment> Segment for Joined<A, B> {
         }
     }
 
-    fn show(&mut self, burst: &[u8], out: &mut [u8; 64]) -> Said {
-        let left = self.left.show(burst, out);
-        let mut reply = [0; 64];
-        let right = self.right.show(burst, &mut reply);
-        join(left, right, &reply, out)
+    fn show(&mut self, burst: &[u8]) -> Said {
+        let left = self.left.show(burst);
+        let right = self.right.show(burst);
+        left.and(right)
     }
 }

@@ -1,39 +1,59 @@
 ghost use Rattle.std.specs.Prelude.{◌≡◌, List, [], ◌∷◌};
-ghost use Rattle.blender.specs.Machines.{Model, model, bytes_of};
-ghost use Rattle.mlan.specs.Checksum.{padded};
-ghost use Rattle.segment.specs.Drops.{drop_answer, drop_batched, replies, drop_reply, shown};
-ghost use Rattle.segment.specs.Saying.{said_of, joined_said, joined_out, Fits};
+ghost use Rattle.blender.specs.Machines.{Model, model};
+ghost use Rattle.segment.specs.Drops.{drop_answer, drop_batched, replies, shown};
+ghost use Rattle.segment.specs.Saying.{said_of, joined_said, reply_said};
 
 use blender::machine::Machine;
 use kinds::Kind;
+use mlan::burst::Burst;
 use terms::Refusal;
 
 // What the machines of a drop said to a burst. Two replies collide, so that nobody
 // understands either.
-#[derive(Clone, Copy)]
+#[derive(Clone, Copy, Debug, PartialEq, Eq)]
 pub enum Said {
     Nothing,
-    // One machine replied, with so many bytes.
-    Reply(usize),
+    Reply(Burst),
     Clash,
+}
+
+impl Said {
+    // What the machines so far and the next one said.
+    pub fn and(self, next: Said) -> Said
+        ensures { result ≡ joined_said self next }
+    {
+        match (self, next) {
+            (_, Said::Nothing) => self,
+            (Said::Nothing, _) => next,
+            _ => Said::Clash,
+        }
+    }
+
+    // The only reply, if there is one.
+    pub fn reply(self) -> Option<Burst>
+        ensures { result ≡ reply_said self }
+    {
+        match self {
+            Said::Reply(reply) => Some(reply),
+            Said::Nothing | Said::Clash => None,
+        }
+    }
 }
 
 // A drop: a part of a cable with its machines. Its meaning is these, from left to right.
 pub trait Segment {
     ghost machines: { Self → List Model };
 
-    // Runs a batch on the leftmost machine of an address: an amount for each component.
+    // Runs a batch on the leftmost machine of an address: an amount for each component. (A struct
+    // of these two would be made for a single call, and taken apart in it.)
     fn batch(&mut self, address: u8, amounts: &[u32]) -> Result<(), Refusal>
         ensures answer { result ≡ drop_answer address amounts.now (machines self.old) }
         ensures machines { machines self.new ≡ drop_batched address amounts.now (machines self.old) };
 
-    // Shows a burst to all machines. Writes the only reply, or nothing where none or several
-    // reply, and zeros to the buffer's end.
-    fn show(&mut self, burst: &[u8], out: &mut [u8; 64]) -> Said
+    // Shows a burst to all machines.
+    fn show(&mut self, burst: &[u8]) -> Said
         ensures said { result ≡ said_of (replies burst.now (machines self.old)) }
-        ensures out { out.new ≡ padded 64 (bytes_of (drop_reply burst.now (machines self.old))) }
-        ensures machines { machines self.new ≡ shown burst.now (machines self.old) }
-        ensures fits { Fits result };
+        ensures machines { machines self.new ≡ shown burst.now (machines self.old) };
 }
 
 impl<K: Kind> Segment for Machine<K> {
@@ -43,28 +63,7 @@ impl<K: Kind> Segment for Machine<K> {
         Machine::batch(self, address, amounts)
     }
 
-    fn show(&mut self, burst: &[u8], out: &mut [u8; 64]) -> Said {
-        match self.answer(burst, out) {
-            0 => Said::Nothing,
-            len => Said::Reply(len),
-        }
-    }
-}
-
-// Joins what the machines so far have said with what the next one says, whose reply is lent.
-pub fn join(so_far: Said, next: Said, reply: &[u8; 64], out: &mut [u8; 64]) -> Said
-    ensures said { result ≡ joined_said so_far next }
-    ensures out { out.new ≡ joined_out so_far next reply.now out.old }
-{
-    match (so_far, next) {
-        (_, Said::Nothing) => so_far,
-        (Said::Nothing, Said::Reply(len)) => {
-            *out = *reply;
-            Said::Reply(len)
-        }
-        _ => {
-            *out = [0; 64];
-            Said::Clash
-        }
+    fn show(&mut self, burst: &[u8]) -> Said {
+        self.answer(burst).map_or(Said::Nothing, Said::Reply)
     }
 }

@@ -1,7 +1,7 @@
 -- A serving: one burst that travels down is shown to a drop, and the reply is put upward.
 use Rattle.std.specs.Prelude.{◌≡◌, ℕ, true, cond, List, Some, None, Option}
 use Rattle.blender.specs.Machines.{Model}
-use Rattle.cable.specs.Bursts.{is_burst}
+use Rattle.mlan.specs.Bursts.{is_burst}
 use Rattle.cable.specs.Pools.{Motion, puts, takes}
 use Rattle.cable.specs.declared.Way.{Way}
 use Rattle.cable.specs.declared.Way.TheVariants.{Down, Up}

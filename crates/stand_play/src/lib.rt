@@ -1,20 +1,22 @@
 // The test stand: plays the lines of its script.
 #![tactic(auto)]
 
-ghost use Rattle.std.specs.Prelude.{◌≡◌, None, MatchResult};
+ghost use Rattle.std.specs.Prelude.{◌≡◌, Some, None, MatchResult};
 ghost use Rattle.std.specs.Option.{option_map};
 ghost use Rattle.blender.specs.Batches.{batched};
 ghost use Rattle.blender.specs.Machines.{after};
-ghost use Rattle.stand_script.specs.Lines.{asked};
+ghost use Rattle.stand_script.specs.Lines.{machine, asked};
 ghost use Rattle.stand_play.specs.Plays.{hung, played, batch_event, shown_event, told};
 
 use rack::AnyMachine;
+use script::LineFault;
 use stand_script::action::Action;
 use stand_script::read::read;
 use stand_text::Event;
 use std::alloc::{AllocError, Global};
 use terms::Refusal;
 use terms::address::Address;
+use wording::plate::Plate;
 
 // A stand on which one machine can hang.
 #[derive(Drop)]
@@ -41,31 +43,30 @@ impl Stand {
             (λ e. (e ≡ told number (asked line.now) (hung self.old)) × (hung self.new ≡ played (asked line.now) (hung self.old)))
             (λ _. hung self.new ≡ hung self.old) }
     {
-        match read(heap, line)? {
-            Action::Nothing => Ok(None),
-            Action::Hang {
-                address,
-                kind,
-                unit,
-            } => {
-                if self.machine.is_some() {
-                    return Ok(Some(Event::NotUnderstood { line: number }));
-                }
-                match Address::new(address) {
-                    Ok(at) => {
-                        self.machine = Some(AnyMachine::new(kind, at, unit));
-                        Ok(Some(Event::Hung {
-                            address,
-                            kind,
-                            unit,
-                        }))
-                    }
-                    Err(refusal) => Ok(Some(Event::NotHung(refusal))),
-                }
+        match read(heap, line) {
+            Ok(None) => Ok(None),
+            Ok(Some(Action::Hang(plate))) => Ok(Some(self.hang(plate, number))),
+            Ok(Some(Action::Run { address, amounts })) => Ok(Some(self.run(address, &amounts))),
+            Ok(Some(Action::Show { bytes })) => Ok(Some(self.show(&bytes))),
+            Err(LineFault::NotUnderstood) => Ok(Some(Event::NotUnderstood { line: number })),
+            Err(LineFault::Memory) => Err(AllocError),
+        }
+    }
+
+    // There is room for one machine.
+    fn hang(&mut self, plate: Plate, number: u64) -> Event
+        ensures event { Some result ≡ told number (machine plate) (hung self.old) }
+        ensures stand { hung self.new ≡ played (machine plate) (hung self.old) }
+    {
+        if self.machine.is_some() {
+            return Event::NotUnderstood { line: number };
+        }
+        match Address::new(plate.address) {
+            Ok(at) => {
+                self.machine = Some(AnyMachine::new(plate.kind, at, plate.unit));
+                Event::Hung(Ok(plate))
             }
-            Action::Run { address, amounts } => Ok(Some(self.run(address, &amounts))),
-            Action::Show { bytes } => Ok(Some(self.show(&bytes))),
-            Action::Unknown => Ok(Some(Event::NotUnderstood { line: number })),
+            Err(refusal) => Event::Hung(Err(refusal)),
         }
     }
 
@@ -73,32 +74,19 @@ impl Stand {
         ensures event { result ≡ batch_event address amounts.now (hung self.old) }
         ensures stand { hung self.new ≡ option_map (batched address amounts.now) (hung self.old) }
     {
-        let result = match &mut self.machine {
+        Event::Batch(match self.machine.as_mut() {
             Some(machine) => machine.batch(address, amounts),
-            None => match Address::new(address) {
-                Ok(_) => Err(Refusal::NoMachine),
-                Err(refusal) => Err(refusal),
-            },
-        };
-        match result {
-            Ok(()) => Event::Accepted,
-            Err(refusal) => Event::Refused(refusal),
-        }
+            None => Address::new(address).and(Err(Refusal::NoMachine)),
+        })
     }
 
     fn show(&mut self, burst: &[u8]) -> Event
         ensures event { result ≡ shown_event burst.now (hung self.old) }
         ensures stand { hung self.new ≡ option_map (λ m. after m burst.now) (hung self.old) }
     {
-        let Some(machine) = &mut self.machine else {
-            return Event::NoReply;
-        };
-        let mut bytes = [0; 64];
-        let len = machine.answer(burst, &mut bytes);
-        if len == 0 {
-            Event::NoReply
-        } else {
-            Event::Reply { bytes, len }
-        }
+        Event::Reply(match self.machine.as_mut() {
+            Some(machine) => machine.answer(burst),
+            None => None,
+        })
     }
 }

@@ -1,20 +1,12 @@
-use terms::{KindName, Unit};
+use wording::plate::Plate;
 
 // What a line of a stand's script asks for.
 #[derive(Drop)]
 pub enum Action {
-    Nothing,
-    Hang {
-        address: u8,
-        kind: KindName,
-        unit: Unit,
-    },
-    Run {
-        address: u8,
-        amounts: Vec<u32>,
-    },
-    Show {
-        bytes: Vec<u8>,
-    },
-    Unknown,
+    // To hang a machine on the stand.
+    Hang(Plate),
+    // To run a batch, with an amount for each component.
+    Run { address: u8, amounts: Vec<u32> },
+    // To show a burst to the machine.
+    Show { bytes: Vec<u8> },
 }

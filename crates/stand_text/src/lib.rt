@@ -1,67 +1,25 @@
 // What a test stand tells of a line of its script.
 #![tactic(auto)]
 
-ghost use Rattle.std.specs.Prelude.{◌≡◌, take, Some};
-ghost use Rattle.std.specs.Fmt.{WritesOnOk};
-ghost use Rattle.stand_text.specs.Texts.{spaced, text_of, kind_text, unit_text};
+ghost use Rattle.std.specs.Prelude.{Some};
+ghost use Rattle.stand_text.specs.Texts.{text_of};
 
+use mlan::burst::Burst;
 use std::fmt;
-use terms::{KindName, Refusal, Unit};
+use terms::Refusal;
+use wording::bytes::Spaced;
+use wording::plate::Plate;
 
 // What came of a line.
-#[derive(Drop)]
+#[derive(Clone, Copy, Debug, PartialEq, Eq)]
 pub enum Event {
-    Hung {
-        address: u8,
-        kind: KindName,
-        unit: Unit,
-    },
-    NotHung(Refusal),
-    Accepted,
-    Refused(Refusal),
-    Reply {
-        bytes: [u8; 64],
-        len: usize,
-    },
-    NoReply,
-    NotUnderstood {
-        line: u64,
-    },
-}
-
-fn kind_word(kind: KindName) -> &'static str
-    ensures { result.now ≡ kind_text kind }
-{
-    match kind {
-        KindName::Four => "four",
-        KindName::Twelve => "twelve",
-        KindName::Feeder => "feeder",
-    }
-}
-
-fn unit_word(unit: Unit) -> &'static str
-    ensures { result.now ≡ unit_text unit }
-{
-    match unit {
-        Unit::Tenths => "tenths",
-        Unit::Grams => "grams",
-    }
-}
-
-fn front(bytes: &[u8; 64], len: usize) -> &[u8]
-    ensures { result.now ≡ take len bytes.now }
-{
-    if len < 64 { &bytes[0..len] } else { bytes }
-}
-
-// Each byte in base ten, behind a space.
-fn write_bytes<W: fmt::Write>(f: &mut fmt::Formatter<W>, bytes: &[u8]) -> fmt::Result
-    ensures { WritesOnOk W.Write.write_str_gives f.old result (spaced bytes.now) f.new }
-{
-    for byte in bytes {
-        write!(f, " {byte}")?;
-    }
-    Ok(())
+    // The machine that was hung on the stand, or why none was.
+    Hung(Result<Plate, Refusal>),
+    // Whether a batch ran.
+    Batch(Result<(), Refusal>),
+    // What was replied to a burst, if anything.
+    Reply(Option<Burst>),
+    NotUnderstood { line: u64 },
 }
 
 impl fmt::Display for Event {
@@ -69,29 +27,12 @@ impl fmt::Display for Event {
 
     fn fmt<W: fmt::Write>(&self, f: &mut fmt::Formatter<W>) -> fmt::Result {
         match self {
-            Event::Hung {
-                address,
-                kind,
-                unit,
-            } => {
-                let kind = kind_word(*kind);
-                let unit = unit_word(*unit);
-                write!(f, "machine {address} {kind} {unit}")
-            }
-            Event::NotHung(refusal) => {
-                let number = *refusal as u8;
-                write!(f, "machine: refused {number}")
-            }
-            Event::Accepted => f.write_str("batch: accepted"),
-            Event::Refused(refusal) => {
-                let number = *refusal as u8;
-                write!(f, "batch: refused {number}")
-            }
-            Event::Reply { bytes, len } => {
-                f.write_str("reply:")?;
-                write_bytes(f, front(bytes, *len))
-            }
-            Event::NoReply => f.write_str("no reply"),
+            Event::Hung(Ok(plate)) => write!(f, "machine {plate}"),
+            Event::Hung(Err(refusal)) => write!(f, "machine: refused {}", refusal.number()),
+            Event::Batch(Ok(())) => write!(f, "batch: accepted"),
+            Event::Batch(Err(refusal)) => write!(f, "batch: refused {}", refusal.number()),
+            Event::Reply(Some(burst)) => write!(f, "reply:{}", Spaced(burst.as_slice())),
+            Event::Reply(None) => write!(f, "no reply"),
             Event::NotUnderstood { line } => write!(f, "line {line}: not understood"),
         }
     }

@@ -2,8 +2,11 @@
 use Rattle.std.specs.Prelude.{ℕ, Bool, false, cond, ◌&&◌, List, [], ◌∷◌, Some, None, Ok, Err, Option, Result, ◌==◌, nat_le}
 use Rattle.terms.specs.declared.Unit.{Unit as MassUnit}
 use Rattle.terms.specs.declared.Unit.TheVariants.{Tenths, Grams}
+use Rattle.terms.specs.declared.UnknownCode.{UnknownCode}
 use Rattle.terms.specs.declared.WeightUnits.{WeightUnits}
 use Rattle.terms.specs.declared.WeightUnits.TheVariants.{Pounds, Ounces, WholeGrams, Kilograms}
+use Rattle.terms.specs.declared.Software.{Software}
+use Rattle.terms.specs.declared.Software.TheVariants.{Four as FourSoftware, Twelve as TwelveSoftware}
 use Rattle.terms.specs.declared.Function.{Function}
 use Rattle.terms.specs.declared.Function.TheVariants.{F82, F130}
 use Rattle.terms.specs.declared.Tag.{Tag}
@@ -16,6 +19,18 @@ abbrev pub system : MassUnit → Bool → ℕ
 system Tenths mark = cond mark 3 2
 system Grams mark = cond mark 10 9
 
+-- the unit of a system byte with the change mark down
+abbrev pub unit_of : ℕ → Option MassUnit
+unit_of n = cond (n == 2) (Some Tenths) (cond (n == 9) (Some Grams) None)
+
+-- the software types are 4 and 12
+abbrev pub software_code : Software → ℕ
+software_code FourSoftware = 4
+software_code TwelveSoftware = 12
+
+abbrev pub software_of : ℕ → Option Software
+software_of n = cond (n == 4) (Some FourSoftware) (cond (n == 12) (Some TwelveSoftware) None)
+
 -- weight units are 0, 1, 2 or 4
 abbrev pub units_code : WeightUnits → ℕ
 units_code Pounds = 0
@@ -25,6 +40,11 @@ units_code Kilograms = 4
 
 abbrev pub units_of : ℕ → Option WeightUnits
 units_of n = cond (n == 0) (Some Pounds) (cond (n == 1) (Some Ounces) (cond (n == 2) (Some WholeGrams) (cond (n == 4) (Some Kilograms) None)))
+
+-- what a byte is the code of, or else the byte itself
+abbrev pub coded : {X : Type 0} → ℕ → Option X → Result X UnknownCode
+coded n None = Err (record { 0 = n })
+coded n (Some x) = Ok x
 
 -- function 82 takes 0 or 1, and 130 takes 0 to 12
 abbrev pub function_code : Function → ℕ

@@ -3,12 +3,13 @@
 
 ghost use Rattle.std.specs.Prelude.{◌≡◌};
 ghost use Rattle.terms.specs.Refusals.{number_of};
-ghost use Rattle.terms.specs.Fields.{system, units_of, function_of, function_limit, tag_of, tag_letters, tag_value};
+ghost use Rattle.terms.specs.Fields.{system, unit_of, software_of, coded, units_of, function_of, function_limit, tag_of, tag_letters, tag_value};
 
 pub mod address;
+pub mod word;
 
 // A kind of machine, by its name.
-#[derive(Clone, Copy)]
+#[derive(Clone, Copy, Debug, PartialEq, Eq)]
 pub enum KindName {
     Four,
     Twelve,
@@ -16,7 +17,7 @@ pub enum KindName {
 }
 
 // What a machine's load cells count: tenths of grams, or grams.
-#[derive(Clone, Copy)]
+#[derive(Clone, Copy, Debug, PartialEq, Eq)]
 pub enum Unit {
     Tenths,
     Grams,
@@ -35,8 +36,44 @@ impl Unit {
     }
 }
 
+// What a system byte with the change mark down tells.
+impl TryFrom<u8> for Unit {
+    type Error = UnknownCode;
+
+    ghost try_from_gives = { λ code r. r ≡ coded code (unit_of code) };
+
+    fn try_from(code: u8) -> Result<Unit, UnknownCode> {
+        match code {
+            2 => Ok(Unit::Tenths),
+            9 => Ok(Unit::Grams),
+            _ => Err(UnknownCode(code)),
+        }
+    }
+}
+
+// The software types, by their codes.
+#[derive(Clone, Copy, Debug, PartialEq, Eq)]
+pub enum Software {
+    Four = 4,
+    Twelve = 12,
+}
+
+impl TryFrom<u8> for Software {
+    type Error = UnknownCode;
+
+    ghost try_from_gives = { λ code r. r ≡ coded code (software_of code) };
+
+    fn try_from(code: u8) -> Result<Software, UnknownCode> {
+        match code {
+            4 => Ok(Software::Four),
+            12 => Ok(Software::Twelve),
+            _ => Err(UnknownCode(code)),
+        }
+    }
+}
+
 // The units in which a machine's display shows weights, by their codes.
-#[derive(Clone, Copy)]
+#[derive(Clone, Copy, Debug, PartialEq, Eq)]
 pub enum WeightUnits {
     Pounds = 0,
     Ounces = 1,
@@ -44,39 +81,49 @@ pub enum WeightUnits {
     Kilograms = 4,
 }
 
-impl WeightUnits {
-    pub fn from_code(code: u8) -> Option<WeightUnits>
-        ensures { result ≡ units_of code }
-    {
+// A byte that is no code of what it should name.
+#[derive(Clone, Copy, Debug, PartialEq, Eq)]
+pub struct UnknownCode(pub u8);
+
+impl TryFrom<u8> for WeightUnits {
+    type Error = UnknownCode;
+
+    ghost try_from_gives = { λ code r. r ≡ coded code (units_of code) };
+
+    fn try_from(code: u8) -> Result<WeightUnits, UnknownCode> {
         match code {
-            0 => Some(WeightUnits::Pounds),
-            1 => Some(WeightUnits::Ounces),
-            2 => Some(WeightUnits::WholeGrams),
-            4 => Some(WeightUnits::Kilograms),
-            _ => None,
+            0 => Ok(WeightUnits::Pounds),
+            1 => Ok(WeightUnits::Ounces),
+            2 => Ok(WeightUnits::WholeGrams),
+            4 => Ok(WeightUnits::Kilograms),
+            _ => Err(UnknownCode(code)),
         }
     }
 }
 
 // The two functions whose values can be set, by their codes. Those are packed decimals:
 // a machine's keypad shows 82 as *52 and 130 as *82.
-#[derive(Clone, Copy)]
+#[derive(Clone, Copy, Debug, PartialEq, Eq)]
 pub enum Function {
     F82 = 82,
     F130 = 130,
 }
 
-impl Function {
-    pub fn from_code(code: u8) -> Option<Function>
-        ensures { result ≡ function_of code }
-    {
+impl TryFrom<u8> for Function {
+    type Error = UnknownCode;
+
+    ghost try_from_gives = { λ code r. r ≡ coded code (function_of code) };
+
+    fn try_from(code: u8) -> Result<Function, UnknownCode> {
         match code {
-            82 => Some(Function::F82),
-            130 => Some(Function::F130),
-            _ => None,
+            82 => Ok(Function::F82),
+            130 => Ok(Function::F130),
+            _ => Err(UnknownCode(code)),
         }
     }
+}
 
+impl Function {
     // The greatest value that the function takes.
     pub fn limit(self) -> u8
         ensures { result ≡ function_limit self }
@@ -89,7 +136,7 @@ impl Function {
 }
 
 // What a tag command sets, and its new value.
-#[derive(Clone, Copy)]
+#[derive(Clone, Copy, Debug, PartialEq, Eq)]
 pub enum Tag {
     Recipe(u16),
     WorkOrder(u32),
@@ -97,7 +144,7 @@ pub enum Tag {
 }
 
 // Why letters and a value make no tag: other letters, or a value above the tag's greatest.
-#[derive(Clone, Copy)]
+#[derive(Clone, Copy, Debug, PartialEq, Eq)]
 pub enum TagFault {
     Letters,
     Value,
@@ -138,14 +185,46 @@ impl Tag {
 }
 
 // A row of a machine's settings: the type of its material and its setting.
-#[derive(Clone, Copy)]
+#[derive(Clone, Copy, Debug, Default, PartialEq, Eq)]
 pub struct Row {
     pub material: u8,
     pub setting: u16,
 }
 
+// What a settings command sets and a settings reply shows: the twelve rows, as `R` holds
+// them, the recipe, the operator and the work order.
+#[derive(Clone, Copy, Debug, PartialEq, Eq)]
+pub struct Sheet<R> {
+    pub rows: R,
+    pub recipe: u16,
+    pub operator: u16,
+    pub order: u32,
+}
+
+impl<R: Drop> Sheet<R> {
+    // The same with other rows, as with those that a part of a burst says.
+    pub fn with_rows<S>(self, rows: S) -> Sheet<S>
+        ensures { result ≡ record { rows = rows; recipe = self.recipe; operator = self.operator; order = self.order } }
+    {
+        Sheet {
+            rows,
+            recipe: self.recipe,
+            operator: self.operator,
+            order: self.order,
+        }
+    }
+}
+
+// What a machine counts: the total of each place, its batches, and the flags.
+#[derive(Clone, Copy, Debug, PartialEq, Eq)]
+pub struct Counts {
+    pub totals: [u32; 12],
+    pub cycles: u16,
+    pub flags: u16,
+}
+
 // Why a call is refused that its caller could have made rightly, by the refusal's number.
-#[derive(Clone, Copy)]
+#[derive(Clone, Copy, Debug, PartialEq, Eq)]
 pub enum Refusal {
     // an address outside 1 to 254
     NoAddress = 2,
@@ -163,12 +242,6 @@ impl Refusal {
     pub fn number(self) -> u8
         ensures { result ≡ number_of self }
     {
-        match self {
-            Refusal::NoAddress => 2,
-            Refusal::BadData => 4,
-            Refusal::NoMachine => 8,
-            Refusal::WrongCount => 9,
-            Refusal::TooLarge => 10,
-        }
+        self as u8
     }
 }

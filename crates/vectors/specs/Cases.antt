@@ -23,11 +23,11 @@ pub record WorkedCases : Type 0 where
   pub other_address : reply twelve (6 ∷ 49 ∷ 200 ∷ []) ≡ None
   -- operator 999 and 1,000
   pub operator_999 : reply twelve (5 ∷ 90 ∷ 79 ∷ 80 ∷ 0 ∷ 0 ∷ 3 ∷ 231 ∷ 23 ∷ []) ≡ ACK
-  pub operator_stored : (after twelve (5 ∷ 90 ∷ 79 ∷ 80 ∷ 0 ∷ 0 ∷ 3 ∷ 231 ∷ 23 ∷ [])).settings.operator ≡ 999
+  pub operator_stored : (after twelve (5 ∷ 90 ∷ 79 ∷ 80 ∷ 0 ∷ 0 ∷ 3 ∷ 231 ∷ 23 ∷ [])).settings.sheet.operator ≡ 999
   pub operator_1000 : reply twelve (5 ∷ 90 ∷ 79 ∷ 80 ∷ 0 ∷ 0 ∷ 3 ∷ 232 ∷ 22 ∷ []) ≡ NAK
   -- recipe 65,535 and 65,536
   pub recipe_65535 : reply twelve (5 ∷ 90 ∷ 82 ∷ 67 ∷ 0 ∷ 0 ∷ 255 ∷ 255 ∷ 13 ∷ []) ≡ ACK
-  pub recipe_stored : (after twelve (5 ∷ 90 ∷ 82 ∷ 67 ∷ 0 ∷ 0 ∷ 255 ∷ 255 ∷ 13 ∷ [])).settings.recipe ≡ 65535
+  pub recipe_stored : (after twelve (5 ∷ 90 ∷ 82 ∷ 67 ∷ 0 ∷ 0 ∷ 255 ∷ 255 ∷ 13 ∷ [])).settings.sheet.recipe ≡ 65535
   pub recipe_65536 : reply twelve (5 ∷ 90 ∷ 82 ∷ 67 ∷ 0 ∷ 1 ∷ 0 ∷ 0 ∷ 10 ∷ []) ≡ NAK
   -- function 130 with 12 and 13
   pub function_12 : reply twelve (5 ∷ 70 ∷ 130 ∷ 0 ∷ 12 ∷ 38 ∷ []) ≡ ACK

@@ -1,21 +1,10 @@
 -- What the words of a script say of a machine.
-use Rattle.std.specs.Prelude.{ℕ, cond, List, [], ◌∷◌, Some, None, codes, Option}
-use Rattle.std.specs.Borrow.{Bor}
-use Rattle.std.specs.Option.{option_map}
-use Rattle.std.specs.Str.{bytes_eq}
+use Rattle.std.specs.Prelude.{ℕ, List, [], ◌∷◌, Some, None, Option}
+use Rattle.terms.specs.Words.{kind_of, unit_of}
 use Rattle.terms.specs.declared.KindName.{KindName}
-use Rattle.terms.specs.declared.KindName.TheVariants.{Four, Twelve, Feeder}
 use Rattle.terms.specs.declared.Unit.{Unit as MassUnit}
-use Rattle.terms.specs.declared.Unit.TheVariants.{Tenths, Grams}
-use Rattle.script.specs.Words.{words}
 use Rattle.script.specs.Numerals.{number_in}
 use Rattle.wording.specs.declared.plate.Plate.{Plate}
-
-abbrev pub kind_of : List ℕ → Option KindName
-kind_of w = cond (bytes_eq w (codes "four")) (Some Four) (cond (bytes_eq w (codes "twelve")) (Some Twelve) (cond (bytes_eq w (codes "feeder")) (Some Feeder) None))
-
-abbrev pub unit_of : List ℕ → Option MassUnit
-unit_of w = cond (bytes_eq w (codes "tenths")) (Some Tenths) (cond (bytes_eq w (codes "grams")) (Some Grams) None)
 
 -- a plate, and the words behind it
 abbrev pub Plated : Type 0
@@ -33,6 +22,3 @@ plate_in [] = None
 plate_in (a ∷ []) = None
 plate_in (a ∷ k ∷ []) = None
 plate_in (a ∷ k ∷ u ∷ rest) = plate_of (number_in 255 a) (kind_of k) (unit_of u) rest
-
-abbrev pub plate_told : Option (Plate × Bor (List ℕ)) → Plated
-plate_told o = option_map (λ p. (p.0, words p.1.now)) o

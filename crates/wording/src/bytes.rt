@@ -1,14 +1,19 @@
-ghost use Rattle.std.specs.Fmt.{WritesOnOk};
+ghost use Rattle.std.specs.Prelude.{Some};
 ghost use Rattle.wording.specs.Texts.{spaced};
 
 use std::fmt;
 
-// Writes each byte in base ten, behind a space.
-pub fn write_bytes<W: fmt::Write>(f: &mut fmt::Formatter<W>, bytes: &[u8]) -> fmt::Result
-    ensures { WritesOnOk W.Write.write_str_gives f.old result (spaced bytes.now) f.new }
-{
-    for byte in bytes {
-        write!(f, " {byte}")?;
+// Bytes that are printed in base ten, each behind a space.
+#[derive(Clone, Copy)]
+pub struct Spaced<'a>(pub &'a [u8]);
+
+impl fmt::Display for Spaced<'_> {
+    ghost output = { λ s. Some (spaced s.0.now) };
+
+    fn fmt<W: fmt::Write>(&self, f: &mut fmt::Formatter<W>) -> fmt::Result {
+        for byte in self.0 {
+            write!(f, " {byte}")?;
+        }
+        Ok(())
     }
-    Ok(())
 }

@@ -1,4 +1,2 @@
-mod Grows
-mod Ranges
+pub mod Behind
 pub mod ReadBack
-pub mod RowsBack

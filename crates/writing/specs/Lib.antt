@@ -1,3 +1,3 @@
 pub mod Answers
-pub mod Draft
 pub mod Requests
+pub mod Sheets

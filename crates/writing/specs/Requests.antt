@@ -1,5 +1,6 @@
 -- Commands as they are written.
-use Rattle.std.specs.Prelude.{◌≡◌, ℕ, Bool, true, false, cond, ◌&&◌, List, [], ◌∷◌, ◌++◌, length, is_ok, nat_le}
+use Rattle.std.specs.Prelude.{◌≡◌, ℕ, Bool, true, cond, ◌&&◌, List, [], ◌∷◌, ◌++◌, length, is_ok, nat_le}
+use Rattle.std.specs.List.{list_all}
 use Rattle.kinds.specs.Kinds.{KindFacts, twelve_facts}
 use Rattle.terms.specs.Fields.{units_code, function_code, function_limit, tag_of, tag_letters, tag_value}
 use Rattle.terms.specs.declared.Row.{Row}
@@ -9,12 +10,13 @@ use Rattle.mlan.specs.Checksum.{sealed}
 use Rattle.mlan.specs.Commands.{Said, get_totals, set_settings, get_settings, get_type, set_function, get_functions, get_version, get_units, set_units, set_keypad, set_tag, reads, read_as}
 use Rattle.mlan.specs.Numbers.{two, four}
 use Rattle.mlan.specs.Rows.{rows_bytes, rows_in}
+use Rattle.writing.specs.Sheets.{sheet_bytes}
 use Rattle.writing.specs.declared.request.Request.{Request}
 use Rattle.writing.specs.declared.request.Request.TheVariants.{GetTotals, SetSettings, GetSettings, GetType, SetFunction, GetFunctions, GetVersion, GetUnits, SetUnits, SetKeypad, SetTag}
 
 abbrev pub request_code : Request → ℕ
 request_code (GetTotals reset) = cond reset 16 17
-request_code (SetSettings rows recipe operator order) = 19
+request_code (SetSettings sheet) = 19
 request_code GetSettings = 20
 request_code GetType = 49
 request_code (SetFunction function value) = 70
@@ -26,17 +28,13 @@ request_code (SetKeypad flag) = 88
 request_code (SetTag tag) = 90
 
 abbrev pub request_data : Request → List ℕ
-request_data (GetTotals reset) = []
-request_data (SetSettings rows recipe operator order) = rows_bytes rows ++ (two recipe ++ (two operator ++ four order))
-request_data GetSettings = []
-request_data GetType = []
+request_data (SetSettings sheet) = sheet_bytes sheet
 request_data (SetFunction function value) = function_code function ∷ two value
 request_data GetFunctions = 0 ∷ []
-request_data GetVersion = []
-request_data GetUnits = []
 request_data (SetUnits units) = units_code units ∷ []
 request_data (SetKeypad flag) = cond flag 1 0 ∷ []
 request_data (SetTag tag) = tag_letters tag ++ four (tag_value tag)
+request_data request = []
 
 -- the burst of a request to an address
 abbrev pub request_bytes : ℕ → Request → List ℕ
@@ -47,29 +45,21 @@ abbrev pub row_in_range : Row → Bool
 row_in_range r = nat_le r.material 3 && nat_le r.setting 999
 
 abbrev pub rows_in_range : List Row → Bool
-rows_in_range [] = true
-rows_in_range (r ∷ rs) = cond (row_in_range r) (rows_in_range rs) false
+rows_in_range rows = list_all row_in_range rows
 
 abbrev pub tag_in_range : Tag → Bool
 tag_in_range tag = is_ok (tag_of (tag_letters tag) (tag_value tag))
 
 abbrev pub in_range : Request → Bool
-in_range (GetTotals reset) = true
-in_range (SetSettings rows recipe operator order) = rows_in_range rows && (tag_in_range (Recipe recipe) && (tag_in_range (Operator operator) && tag_in_range (WorkOrder order)))
-in_range GetSettings = true
-in_range GetType = true
+in_range (SetSettings sheet) = rows_in_range sheet.rows && (tag_in_range (Recipe sheet.recipe) && (tag_in_range (Operator sheet.operator) && tag_in_range (WorkOrder sheet.order)))
 in_range (SetFunction function value) = nat_le value (function_limit function)
-in_range GetFunctions = true
-in_range GetVersion = true
-in_range GetUnits = true
-in_range (SetUnits units) = true
-in_range (SetKeypad flag) = true
 in_range (SetTag tag) = tag_in_range tag
+in_range request = true
 
 -- what a reader should understand
 abbrev pub meant : Request → Said
 meant (GetTotals reset) = get_totals reset
-meant (SetSettings rows recipe operator order) = set_settings (record { at = 2; bytes = rows_bytes rows }) recipe operator order
+meant (SetSettings sheet) = set_settings (record { at = 2; bytes = rows_bytes sheet.rows }) sheet.recipe sheet.operator sheet.order
 meant GetSettings = get_settings
 meant GetType = get_type
 meant (SetFunction function value) = set_function function value
@@ -82,17 +72,8 @@ meant (SetTag tag) = set_tag (record { at = 2; bytes = tag_letters tag }) tag
 
 -- the rows that a settings request means
 abbrev pub SameRows : Request → Type 0
-SameRows (GetTotals reset) = Unit {0}
-SameRows (SetSettings rows recipe operator order) = rows_in (record { at = 2; bytes = rows_bytes rows }) ≡ rows
-SameRows GetSettings = Unit {0}
-SameRows GetType = Unit {0}
-SameRows (SetFunction function value) = Unit {0}
-SameRows GetFunctions = Unit {0}
-SameRows GetVersion = Unit {0}
-SameRows GetUnits = Unit {0}
-SameRows (SetUnits units) = Unit {0}
-SameRows (SetKeypad flag) = Unit {0}
-SameRows (SetTag tag) = Unit {0}
+SameRows (SetSettings sheet) = rows_in (record { at = 2; bytes = rows_bytes sheet.rows }) ≡ sheet.rows
+SameRows request = Unit {0}
 
 -- reading a command that was written gives back what was meant: a Twelve reads it, no kind reads anything else, and its rows are those that were sent
 pub record ReadsBack (address : ℕ) (request : Request) : Type 0 where
@@ -102,14 +83,5 @@ pub record ReadsBack (address : ℕ) (request : Request) : Type 0 where
 
 -- a settings request has twelve rows
 abbrev pub TwelveRows : Request → Type 0
-TwelveRows (GetTotals reset) = Unit {0}
-TwelveRows (SetSettings rows recipe operator order) = length rows ≡ 12
-TwelveRows GetSettings = Unit {0}
-TwelveRows GetType = Unit {0}
-TwelveRows (SetFunction function value) = Unit {0}
-TwelveRows GetFunctions = Unit {0}
-TwelveRows GetVersion = Unit {0}
-TwelveRows GetUnits = Unit {0}
-TwelveRows (SetUnits units) = Unit {0}
-TwelveRows (SetKeypad flag) = Unit {0}
-TwelveRows (SetTag tag) = Unit {0}
+TwelveRows (SetSettings sheet) = length sheet.rows ≡ 12
+TwelveRows request = Unit {0}

@@ -1,13 +1,14 @@
 ghost use Rattle.std.specs.Prelude.{◌≡◌, ◌+◌, ◌≤◌, ◌++◌, length};
 ghost use Rattle.writing.specs.Answers.{answer_code, answer_data, answer_bytes};
-ghost use Rattle.mlan.specs.Checksum.{padded};
-ghost use Rattle.writing.specs.Draft.{written, size};
 
 use super::draft::Draft;
-use terms::{Row, Unit, WeightUnits};
+use mlan::burst::Burst;
+use terms::{Counts, Row, Sheet, Unit, WeightUnits};
 
-// What a machine replies to a command.
-#[derive(Drop)]
+// What a machine replies to a command. Its software type is a number: an enum would ask more
+// of who writes an answer. So unit and software are no struct either, which a `Reply`, with
+// `Software` in it, could not share.
+#[derive(Clone, Copy, Debug, PartialEq, Eq)]
 pub enum Answer {
     // Done, to a command that sets something.
     Ack,
@@ -18,18 +19,13 @@ pub enum Answer {
         reset: bool,
         unit: Unit,
         software: u8,
-        cycles: u16,
-        flags: u16,
-        totals: [u32; 12],
+        counts: Counts,
     },
     Settings {
         unit: Unit,
         mark: bool,
         software: u8,
-        rows: [Row; 12],
-        recipe: u16,
-        operator: u16,
-        order: u32,
+        sheet: Sheet<[Row; 12]>,
     },
     SystemType {
         unit: Unit,
@@ -63,22 +59,20 @@ impl Answer {
         }
     }
 
-    // Writes the burst, and zeros to the buffer's end; answers the burst's length.
-    pub fn write(&self, address: u8, out: &mut [u8; 64]) -> usize
-        ensures len { result ≡ length (answer_bytes address self.now) }
-        ensures out { out.new ≡ padded 64 (answer_bytes address self.now) }
-        ensures fits { result ≤ 64 }
+    // The burst of the reply of the machine with this address.
+    pub fn burst(&self, address: u8) -> Burst
+        ensures { result ≡ answer_bytes address self.now }
     {
         let mut draft = Draft::new();
         draft.append(&[address, self.code()]);
-        self.append_data(&mut draft);
-        draft.seal_into(out)
+        self.put_data(&mut draft);
+        draft.seal()
     }
 
-    fn append_data(&self, draft: &mut Draft)
-        requires { size draft.old ≤ 2 }
-        ensures written { written draft.new ≡ written draft.old ++ answer_data self.now }
-        ensures len { size draft.new ≤ size draft.old + 56 }
+    fn put_data(&self, draft: &mut Draft)
+        requires { length draft.old ≤ 2 }
+        ensures written { draft.new ≡ draft.old ++ answer_data self.now }
+        ensures len { length draft.new ≤ length draft.old + 56 }
     {
         match self {
             Answer::Ack => draft.append(&[6]),
@@ -86,30 +80,22 @@ impl Answer {
             Answer::Totals {
                 unit,
                 software,
-                cycles,
-                flags,
-                totals,
+                counts,
                 ..
             } => {
                 draft.append(&[unit.system(false), *software, 0, 0]);
-                draft.append_u16(*cycles);
-                draft.append_u16(*flags);
-                draft.append_totals(totals);
+                draft.put(counts.cycles);
+                draft.put(counts.flags);
+                draft.put_all(&counts.totals);
             }
             Answer::Settings {
                 unit,
                 mark,
                 software,
-                rows,
-                recipe,
-                operator,
-                order,
+                sheet,
             } => {
                 draft.append(&[unit.system(*mark), *software]);
-                draft.append_rows(rows);
-                draft.append_u16(*recipe);
-                draft.append_u16(*operator);
-                draft.append_u32(*order);
+                draft.put_sheet(sheet);
             }
             Answer::SystemType { unit, software } => draft.append(&[unit.system(false), *software]),
             Answer::Functions { f130, f82 } => {

@@ -1,104 +1,131 @@
-ghost use Rattle.std.specs.Prelude.{◌≡◌, ◌+◌, ◌*◌, ◌<◌, ◌≤◌, [], ◌∷◌, ◌++◌, length};
-ghost use Rattle.mlan.specs.Checksum.{sealed, padded};
-ghost use Rattle.writing.specs.Draft.{written, size};
-ghost use Rattle.mlan.specs.Numbers.{two, four, fours};
-ghost use Rattle.mlan.specs.Rows.{row_bytes, rows_bytes};
+ghost use Rattle.std.specs.Prelude.{◌≡◌, ℕ, ◌+◌, ◌*◌, ◌<◌, ◌≤◌, List, [], ◌∷◌, ◌++◌, length, refl};
+ghost use Rattle.std.specs.List.{flat_map};
+ghost use Rattle.mlan.specs.Checksum.{sealed};
+ghost use Rattle.mlan.specs.Numbers.{two, four};
+ghost use Rattle.mlan.specs.Rows.{row_bytes};
+ghost use Rattle.writing.specs.Sheets.{sheet_bytes};
 
+use arrayvec::ArrayVec;
+use mlan::burst::Burst;
 use mlan::checksum::sum_of;
-use terms::Row;
+use std::marker::Model;
+use terms::{Row, Sheet};
 
-// A burst that is being written, part by part.
+// A burst that is being written, field by field. In a contract it is the list of its bytes.
 #[derive(Drop)]
 pub(crate) struct Draft {
-    bytes: [u8; 64],
-    len: usize,
+    bytes: ArrayVec<u8, 64>,
+}
+
+impl Model for Draft {
+    ghost Value = { List ℕ };
+
+    ghost view = { λ d. d.bytes.items };
 }
 
 impl Draft {
     pub(crate) fn new() -> Draft
-        ensures empty { written result ≡ [] }
-        ensures len { size result ≡ 0 }
+        ensures { result ≡ [] }
     {
         Draft {
-            bytes: [0; 64],
-            len: 0,
+            bytes: ArrayVec::new(),
         }
     }
 
     pub(crate) fn append(&mut self, part: &[u8])
-        requires { size self.old + length part.now ≤ 64 }
-        ensures written { written self.new ≡ written self.old ++ part.now }
-        ensures len { size self.new ≡ size self.old + length part.now }
+        requires { length self.old + length part.now ≤ 64 }
+        ensures { self.new ≡ self.old ++ part.now }
     {
-        let end = self.len + part.len();
-        self.bytes[self.len..end].copy_from_slice(part);
-        self.len = end;
+        self.bytes.try_extend_from_slice(part).unwrap();
     }
 
-    pub(crate) fn append_u16(&mut self, value: u16)
-        requires { size self.old + 2 ≤ 64 }
-        ensures written { written self.new ≡ written self.old ++ two value }
-        ensures len { size self.new ≡ size self.old + 2 }
+    pub(crate) fn put<T: Field>(&mut self, field: T)
+        requires { length self.old + T.size ≤ 64 }
+        ensures { self.new ≡ self.old ++ T.bytes field }
     {
-        self.append(&value.to_be_bytes());
+        field.put_into(self);
     }
 
-    pub(crate) fn append_u32(&mut self, value: u32)
-        requires { size self.old + 4 ≤ 64 }
-        ensures written { written self.new ≡ written self.old ++ four value }
-        ensures len { size self.new ≡ size self.old + 4 }
+    // One field behind the other.
+    pub(crate) fn put_all<T: Field + Copy>(&mut self, fields: &[T])
+        requires { length self.old + T.size * length fields.now ≤ 64 }
+        ensures written { self.new ≡ self.old ++ flat_map T.bytes fields.now }
+        ensures len { length self.new ≡ length self.old + T.size * length fields.now }
     {
-        self.append(&value.to_be_bytes());
-    }
-
-    pub(crate) fn append_totals(&mut self, totals: &[u32])
-        requires { size self.old + 4 * length totals.now ≤ 64 }
-        ensures written { written self.new ≡ written self.old ++ fours totals.now }
-        ensures len { size self.new ≡ size self.old + 4 * length totals.now }
-    {
-        for total in totals {
-            self.append_u32(*total);
+        for field in fields {
+            self.put(*field);
         }
     }
 
-    fn append_row(&mut self, row: &Row)
-        requires { size self.old + 3 ≤ 64 }
-        ensures written { written self.new ≡ written self.old ++ row_bytes row.now }
-        ensures len { size self.new ≡ size self.old + 3 }
+    // The twelve rows, the recipe, the operator and the work order.
+    pub(crate) fn put_sheet(&mut self, sheet: &Sheet<[Row; 12]>)
+        requires { length self.old + 44 ≤ 64 }
+        ensures written { self.new ≡ self.old ++ sheet_bytes sheet.now }
+        ensures len { length self.new ≡ length self.old + 44 }
     {
-        let [high, low] = row.setting.to_be_bytes();
-        self.append(&[row.material, high, low]);
+        self.put_all(&sheet.rows);
+        self.put(sheet.recipe);
+        self.put(sheet.operator);
+        self.put(sheet.order);
     }
 
-    pub(crate) fn append_rows(&mut self, rows: &[Row])
-        requires { size self.old + 3 * length rows.now ≤ 64 }
-        ensures written { written self.new ≡ written self.old ++ rows_bytes rows.now }
-        ensures len { size self.new ≡ size self.old + 3 * length rows.now }
+    // The burst, with the checksum behind what was written.
+    pub(crate) fn seal(mut self) -> Burst
+        requires { length self < 64 }
+        ensures { result ≡ sealed self }
     {
-        for row in rows {
-            self.append_row(row);
-        }
-    }
-
-    // Puts the checksum behind what was written, and the burst and zeros into the buffer.
-    pub(crate) fn seal_into(mut self, out: &mut [u8; 64]) -> usize
-        requires { size self < 64 }
-        ensures len { result ≡ length (sealed (written self)) }
-        ensures out { out.new ≡ padded 64 (sealed (written self)) }
-        ensures fits { result ≤ 64 }
-    {
-        let check = 255 - sum_of(&self.bytes[0..self.len]);
-        self.append(&[check]);
-        fill(out, &self.bytes[0..self.len]);
-        self.len
+        let check = 255 - sum_of(self.bytes.as_slice());
+        self.bytes.push(check);
+        Burst::new(self.bytes.as_slice()).unwrap()
     }
 }
 
-// The bytes, and zeros to the buffer's end.
-fn fill(buffer: &mut [u8], bytes: &[u8])
-    requires { length bytes.now ≤ length buffer.old }
-    ensures { buffer.new ≡ padded (length buffer.old) bytes.now }
-{
-    buffer.fill(0);
-    buffer[0..bytes.len()].copy_from_slice(bytes);
+// What a burst holds as so many bytes, whatever its value.
+pub(crate) trait Field {
+    ghost bytes: { Self → List ℕ };
+
+    ghost size: { ℕ };
+
+    fn put_into(self, draft: &mut Draft)
+        requires { length draft.old + size ≤ 64 }
+        ensures { draft.new ≡ draft.old ++ bytes self };
+
+    ghost sized: { (x : Self) → length (bytes x) ≡ size };
+}
+
+impl Field for u16 {
+    ghost bytes = { two };
+
+    ghost size = { 2 };
+
+    ghost sized = { λ x. refl };
+
+    fn put_into(self, draft: &mut Draft) {
+        draft.append(&self.to_be_bytes());
+    }
+}
+
+impl Field for u32 {
+    ghost bytes = { four };
+
+    ghost size = { 4 };
+
+    ghost sized = { λ x. refl };
+
+    fn put_into(self, draft: &mut Draft) {
+        draft.append(&self.to_be_bytes());
+    }
+}
+
+impl Field for Row {
+    ghost bytes = { row_bytes };
+
+    ghost size = { 3 };
+
+    ghost sized = { λ x. refl };
+
+    fn put_into(self, draft: &mut Draft) {
+        draft.append(&[self.material]);
+        draft.put(self.setting);
+    }
 }

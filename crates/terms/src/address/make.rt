@@ -5,6 +5,7 @@ use super::super::Refusal;
 use super::Address;
 
 impl Address {
+    // A constructor that tests, as those of the library's `NonZero` do, and so no `TryFrom`.
     pub fn new(value: u8) -> Result<Address, Refusal>
         ensures { numbered result ≡ addressed value }
     {

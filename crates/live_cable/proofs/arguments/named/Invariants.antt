@@ -5,7 +5,7 @@ use Rattle.live_cable.specs.Arguments.{named_from}
 use Rattle.live_cable.proofs.arguments.named.Given as goal
 
 abbrev pub invariant-loop-word : goal.invariant-loop-word
-invariant-loop-word l = named_from (racked l.machines) (words l.rest) ≡ named_from [] (words l.line)
+invariant-loop-word l = named_from (racked l.machines) (words l.words) ≡ named_from [] (words l.line)
 
 abbrev pub decreases-loop-word : goal.decreases-loop-word
-decreases-loop-word l = length l.rest
+decreases-loop-word l = length l.words

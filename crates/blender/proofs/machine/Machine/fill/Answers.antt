@@ -1,18 +1,21 @@
-use Rattle.std.proofs.Common.{◌<◌, ◌≤◌, length, sym, ◌∙◌, arith, rules}
+use Rattle.std.proofs.Common.{◌<◌, ◌≤◌, length, get_or, ◌∙◌, arith, rules}
+use Rattle.std.proofs.lemmas.Option.{none-some, same_Some}
 use Rattle.kinds.specs.Kinds.{places}
-use Rattle.kinds.proofs.Components.{component_place, length_listed}
+use Rattle.kinds.proofs.Components.{told_component, within_twelve, length_listed}
 use Rattle.blender.specs.Batches.{filled}
 use Rattle.blender.specs.Machines.{model}
-use Rattle.blender.proofs.Filling.{place_added, none_added, all_added}
+use Rattle.blender.proofs.Filling.{place_added, all_added}
+use Rattle.blender.proofs.machine.Machine.fill.Goals.{in-Some, in_default}
 use Rattle.blender.proofs.machine.Machine.fill.Goals as goal
-
-pub loop-i-init : goal.loop-i-init
-loop-i-init g c = none_added (model g.K.Kind.facts c.args.self.now) (places g.K.Kind.facts) c.args.amounts.now (search rules)
 
 pub add_at-flags-requires : goal.add_at-flags-requires
 add_at-flags-requires g c =
-    let p = component_place g.K.Kind.facts c.loop-i.i (omega (arith, c.requires, c.loop-i-test.true)) in
-    (omega (arith, c.place.ensures, p.1), omega (arith, c.place.ensures, p.2))
+    let k = g.K.Kind.facts in
+    let i = c.loop-i.i in
+    let component : i < k.components = omega (arith, c.requires, c.loop-i-test.true) in
+    let w = within_twelve (places k) i (omega (arith, length_listed k.place k.components)) k.places_apart in
+    let at = same_Some c.in-Some.place (get_or (places k) i 0) (c.in-Some.ensures ∙ told_component k i component) in
+    (omega (arith, at, w.0), omega (arith, at, w.1))
 
 pub loop-i-preserved : goal.loop-i-preserved
 loop-i-preserved g c =
@@ -20,8 +23,12 @@ loop-i-preserved g c =
     let i = c.loop-i.i in
     let component : i < k.components = omega (arith, c.requires, c.loop-i-test.true) in
     let within : i < length (places k) = omega (arith, length_listed k.place k.components) in
-    place_added (model k c.args.self.now) (places k) c.args.amounts.now i c.loop-i.totals c.add_at-flags.new.totals c.loop-i.flags c.add_at-flags.result c.place.result
-    within c.loop-i-test.true k.places_apart (c.place.ensures ∙ sym (component_place k i component).0) c.add_at-flags.ensures.totals c.add_at-flags.ensures.flags c.loop-i.invariant
+    elim c.match-place.branch [
+      | in-Some w ↦ rw (w.totals-is, w.flags-is)
+          (place_added (model k c.args.self.now) (places k) c.args.amounts.now i c.loop-i.totals w.add_at-flags.new.totals c.loop-i.flags w.add_at-flags.result w.in-Some.place within c.loop-i-test.true k.places_apart
+          (same_Some w.in-Some.place (get_or (places k) i 0) (w.in-Some.ensures ∙ told_component k i component)) w.add_at-flags.ensures.totals w.add_at-flags.ensures.flags c.loop-i.invariant)
+      | in_default w ↦ absurd (none-some (get_or (places k) i 0) (w.in_default.ensures ∙ told_component k i component))
+    ]
 
 pub returns : goal.returns
 unfolding filled

@@ -1,0 +1,71 @@
+ghost use Rattle.std.specs.Prelude.{◌≡◌, []};
+ghost use Rattle.cable.specs.declared.Way.TheVariants.{Down, Up};
+ghost use Rattle.cable.specs.Pools.{given, Stays};
+ghost use Rattle.cable.specs.Held.{put_by, Exact, Carries};
+ghost use Rattle.cable.specs.TwoWay.{pools};
+ghost use Rattle.cable.specs.Rules.{lawful as by_rule};
+
+use super::Way;
+use super::line::Line;
+use super::store::Store;
+use mlan::burst::Burst;
+
+// A line that holds the bursts of each way in a store of its own.
+#[derive(Clone, Copy)]
+pub struct TwoWay<S> {
+    below: S,
+    above: S,
+}
+
+impl<S: Store> TwoWay<S> {
+    pub fn new() -> Self
+        ensures down { pools S.held result Down ≡ [] }
+        ensures up { pools S.held result Up ≡ [] }
+    {
+        TwoWay {
+            below: S::empty(),
+            above: S::empty(),
+        }
+    }
+}
+
+impl<S: Store> Line for TwoWay<S> {
+    ghost pool = { pools S.held };
+
+    ghost moves = { λ s w m t. Exact (put_by S.rule) w m (pools S.held s) (pools S.held t) };
+
+    ghost lawful = { λ s w m t e. by_rule S.rule S.adds m w (pools S.held s) (pools S.held t) e };
+
+    // The way is matched in each call: a function that lends the store of a way would have to
+    // promise what becomes of both.
+    fn put(&mut self, way: Way, burst: &[u8]) {
+        if let Some(burst) = Burst::new(burst) {
+            match way {
+                Way::Down => self.below.put(burst),
+                Way::Up => self.above.put(burst),
+            }
+        }
+    }
+
+    fn take(&mut self, way: Way, into: &mut [u8; 64]) -> Option<usize> {
+        let burst = match way {
+            Way::Down => self.below.take(),
+            Way::Up => self.above.take(),
+        }?;
+        Some(burst.write(into))
+    }
+}
+
+// Such a line carries: what is put on it comes out by its store's rule.
+pub fn carries<S: Store>(
+    line: &mut TwoWay<S>,
+    way: Way,
+    burst: &[u8],
+    into: &mut [u8; 64],
+) -> Option<usize>
+    ensures carries { Carries (put_by S.rule) way burst.now (pools S.held line.old) (given result into.new) (pools S.held line.new) }
+    ensures rest { Stays result into.old into.new }
+{
+    line.put(way, burst);
+    line.take(way, into)
+}
