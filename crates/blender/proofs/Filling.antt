@@ -93,9 +93,6 @@ pub place_added : (m : Model) (qs ns : List ℕ) (i : ℕ) (totals totals' : Lis
     → Added m qs ns i totals flags → Added m qs ns (i + 1) totals' (bit_or flags bits)
 place_added m qs ns i totals totals' flags bits place within amount far at new turn inv = rw (new, turn, at) (one_added m qs ns i totals flags within amount far inv)
 
-pub none_added : (m : Model) (qs ns : List ℕ) → length m.totals ≡ 12 → Added m qs ns 0 m.totals m.flags
-none_added m qs ns l = (l, (λ p from to. refl), refl)
-
 pub all_added : (m : Model) (qs ns : List ℕ) (i : ℕ) (totals : List ℕ) (flags : ℕ) → length qs ≤ i → length ns ≤ i → Added m qs ns i totals flags
     → (totals ≡ each_place (λ p. with_dose (total m p) (dose qs ns p))) × (flags ≡ turned m qs ns m.flags)
 all_added m qs ns i totals flags past done inv = (

@@ -38,13 +38,12 @@ lined = put_by up_to_eight
 -- a line that puts by its rule and, at a taking, gives and removes its first burst; it gives nothing only if that way is empty, and the other way stays as it is
 abbrev pub Exact : (List ℕ → List (List ℕ) → List (List ℕ)) → Way → Motion → (Way → List (List ℕ)) → (Way → List (List ℕ)) → Type 0
 Exact rule w (puts b) before after = (after w ≡ rule b (before w)) × (after (other w) ≡ before (other w))
-Exact rule w (takes o) before after =
-    (o ≡ first (before w)) × IfSome o (λ b. is_burst b ≡ true) × (after w ≡ rest (before w)) × (after (other w) ≡ before (other w))
+Exact rule w (takes o) before after = (o ≡ first (before w)) × (after w ≡ rest (before w)) × (after (other w) ≡ before (other w))
 
--- the same, without saying that what is given is a burst
-abbrev pub Follows : (List ℕ → List (List ℕ) → List (List ℕ)) → Way → Motion → (Way → List (List ℕ)) → (Way → List (List ℕ)) → Type 0
-Follows rule w (puts b) before after = (after w ≡ rule b (before w)) × (after (other w) ≡ before (other w))
-Follows rule w (takes o) before after = (o ≡ first (before w)) × (after w ≡ rest (before w)) × (after (other w) ≡ before (other w))
+-- what is taken, if anything, is a burst
+abbrev pub GivesBurst : Motion → Type 0
+GivesBurst (puts b) = Unit {0}
+GivesBurst (takes o) = IfSome o (λ b. is_burst b ≡ true)
 
 -- a putting, and then a taking the same way
 abbrev pub Carries : (List ℕ → List (List ℕ) → List (List ℕ)) → Way → List ℕ → (Way → List (List ℕ)) → Option (List ℕ) → (Way → List (List ℕ)) → Type 0

@@ -4,7 +4,7 @@ use Rattle.std.proofs.Common.{sym, subst, inl, inr}
 use Rattle.std.proofs.lemmas.Option.{none-some, same_Some}
 use Rattle.mlan.specs.Bursts.{is_burst}
 use Rattle.cable.specs.Pools.{other, Motion, puts, takes, In, Within, Gives, Putting, Lawful}
-use Rattle.cable.specs.Held.{first, rest, put_by, newest, up_to_eight, replaced, lined, Exact, Follows}
+use Rattle.cable.specs.Held.{first, rest, put_by, newest, up_to_eight, replaced, lined, Exact, GivesBurst}
 use Rattle.cable.specs.TwoWay.{pair_pool, carrier_pool}
 use Rattle.cable.specs.declared.Way.{Way}
 use Rattle.cable.specs.declared.two_way.TwoWay.{TwoWay}
@@ -29,12 +29,21 @@ module _ (rule : List ℕ → List (List ℕ) → List (List ℕ)) (adds : (b : 
       go true = (adds b near, λ c i. i)
       go false = (refl, refl)
 
-  pub lawful : (m : Motion) (w : Way) (s t : Way → List (List ℕ)) → Exact (put_by rule) w m s t → Lawful m (s w) (s (other w)) (t w) (t (other w))
-  lawful (puts b) w s t e =
+  pub lawful : (m : Motion) (w : Way) (s t : Way → List (List ℕ)) → GivesBurst m → Exact (put_by rule) w m s t → Lawful m (s w) (s (other w)) (t w) (t (other w))
+  lawful (puts b) w s t is e =
       subst (λ (p : List (List ℕ)). Putting (is_burst b) b (s w) (s (other w)) p (t (other w))) (sym e.0)
       (subst (λ (p : List (List ℕ)). Putting (is_burst b) b (s w) (s (other w)) (put_by rule b (s w)) p) (sym e.1) (puts_law (s w) (s (other w)) b))
-  lawful (takes None) w s t e = (tt, (λ b i. rest_within (s w) b (same e.2 b i)), same e.3)
-  lawful (takes (Some b)) w s t e = (gives_first b (s w) e.1 e.0, (λ c i. rest_within (s w) c (same e.2 c i)), same e.3)
+  lawful (takes None) w s t is e = (tt, (λ b i. rest_within (s w) b (same e.1 b i)), same e.2)
+  lawful (takes (Some b)) w s t is e = (gives_first b (s w) is e.0, (λ c i. rest_within (s w) c (same e.1 c i)), same e.2)
+
+-- what is held to be taken next is a burst, as in every line that a program has made: nothing else is put
+abbrev pub Bursts : List (List ℕ) → Type 0
+Bursts pool = (b : List ℕ) → Some b ≡ first pool → is_burst b ≡ true
+
+gives_burst : (rule : List ℕ → List (List ℕ) → List (List ℕ)) (m : Motion) (w : Way) (s t : Way → List (List ℕ)) → Bursts (s w) → Exact rule w m s t → GivesBurst m
+gives_burst rule (puts b) w s t all e = tt
+gives_burst rule (takes None) w s t all e = tt
+gives_burst rule (takes (Some b)) w s t all e = all b e.0
 
 pub newest_adds : (b : List ℕ) (bursts : List (List ℕ)) → Within (newest b bursts) (b ∷ bursts)
 newest_adds b bursts c i = elim i [ inl e ↦ inl e | inr k ↦ absurd k ]
@@ -51,16 +60,10 @@ up_to_eight_adds b bursts = within (nat_lt (length bursts) 8)
     within true c i = at_end b c bursts i
     within false c i = inr i
 
-pub pair_lawful : (s : TwoWay (Option (List ℕ))) (w : Way) (m : Motion) (t : TwoWay (Option (List ℕ))) → Exact replaced w m (pair_pool s) (pair_pool t)
+pub pair_lawful : (s : TwoWay (Option (List ℕ))) (w : Way) (m : Motion) (t : TwoWay (Option (List ℕ))) → Bursts (pair_pool s w) → Exact replaced w m (pair_pool s) (pair_pool t)
     → Lawful m (pair_pool s w) (pair_pool s (other w)) (pair_pool t w) (pair_pool t (other w))
-pair_lawful s w m t = lawful newest newest_adds m w (pair_pool s) (pair_pool t)
+pair_lawful s w m t all e = lawful newest newest_adds m w (pair_pool s) (pair_pool t) (gives_burst replaced m w (pair_pool s) (pair_pool t) all e) e
 
-pub carrier_lawful : (s : TwoWay (List (List ℕ))) (w : Way) (m : Motion) (t : TwoWay (List (List ℕ))) → Exact lined w m (carrier_pool s) (carrier_pool t)
+pub carrier_lawful : (s : TwoWay (List (List ℕ))) (w : Way) (m : Motion) (t : TwoWay (List (List ℕ))) → Bursts (carrier_pool s w) → Exact lined w m (carrier_pool s) (carrier_pool t)
     → Lawful m (carrier_pool s w) (carrier_pool s (other w)) (carrier_pool t w) (carrier_pool t (other w))
-carrier_lawful s w m t = lawful up_to_eight up_to_eight_adds m w (carrier_pool s) (carrier_pool t)
-
--- where the next burst of a way is one, as it is in every line that a program has, the two ways to say what a motion did are one
-pub exact_of_bursts : (rule : List ℕ → List (List ℕ) → List (List ℕ)) (m : Motion) (w : Way) (s t : Way → List (List ℕ)) → ((b : List ℕ) → Some b ≡ first (s w) → is_burst b ≡ true) → Follows rule w m s t → Exact rule w m s t
-exact_of_bursts rule (puts b) w s t all e = e
-exact_of_bursts rule (takes None) w s t all e = (e.0, tt, e.1, e.2)
-exact_of_bursts rule (takes (Some b)) w s t all e = (e.0, all b e.0, e.1, e.2)
+carrier_lawful s w m t all e = lawful up_to_eight up_to_eight_adds m w (carrier_pool s) (carrier_pool t) (gives_burst lined m w (carrier_pool s) (carrier_pool t) all e) e

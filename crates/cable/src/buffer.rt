@@ -20,7 +20,8 @@ impl BufferRefusal {
 }
 
 // Writes a burst, or nothing, into a caller's buffer, and zeros to its end; answers the burst's
-// length, 0 for nothing, by a rule of the project. A buffer that could not hold every burst is refused, and stays as it was.
+// length. By the rule of serving that is 0 for nothing (docs/PROTOCOL.md, Serving). A buffer
+// that could not hold every burst is refused, and stays as it was.
 pub fn fill(buffer: &mut [u8], burst: Option<Burst>) -> Result<usize, BufferRefusal>
     ensures answer { result ≡ (if nat_le 64 (length buffer.old) then Ok (length (unwrap_or burst [])) else Err BufferRefusal.ShortBuffer) }
     ensures buffer { buffer.new ≡ (if nat_le 64 (length buffer.old) then padded (length buffer.old) (unwrap_or burst []) else buffer.old) }

@@ -19,8 +19,8 @@ pub trait Line {
         ensures { moves self.old way (puts burst.now) self.new };
 
     // Takes a burst that came this way: writes it over the first bytes that are lent, and
-    // answers its length, or nothing. The bytes behind it stay as they were. (That 64 bytes are
-    // lent is a rule of the project.)
+    // answers its length, or nothing. The bytes behind it stay as they were. By the rules of
+    // lines 64 bytes are lent, so that every burst fits (docs/PROTOCOL.md, Lines).
     fn take(&mut self, way: Way, into: &mut [u8; 64]) -> Option<usize>
         ensures moves { moves self.old way (takes (given result into.new)) self.new }
         ensures fits { Fits result }

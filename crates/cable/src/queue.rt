@@ -11,7 +11,7 @@ const ROOM: usize = 8;
 
 // At most eight bursts, the oldest first; the slots behind them are free. In a contract it is
 // the list of these bursts. It is an array, and no vector, to be `Copy`.
-#[derive(Clone, Copy)]
+#[derive(Clone, Copy, Debug, PartialEq, Eq)]
 pub struct Queue {
     slots: [Option<Burst>; ROOM],
 }

@@ -1,7 +1,7 @@
 ghost use Rattle.std.specs.Prelude.{◌≡◌, []};
 ghost use Rattle.cable.specs.declared.Way.TheVariants.{Down, Up};
 ghost use Rattle.cable.specs.Pools.{given, Stays};
-ghost use Rattle.cable.specs.Held.{put_by, Exact, Carries};
+ghost use Rattle.cable.specs.Held.{put_by, Exact, GivesBurst, Carries};
 ghost use Rattle.cable.specs.TwoWay.{pools};
 ghost use Rattle.cable.specs.Rules.{lawful as by_rule};
 
@@ -11,7 +11,7 @@ use super::store::Store;
 use mlan::burst::Burst;
 
 // A line that holds the bursts of each way in a store of its own.
-#[derive(Clone, Copy)]
+#[derive(Clone, Copy, Debug, PartialEq, Eq)]
 pub struct TwoWay<S> {
     below: S,
     above: S,
@@ -32,9 +32,9 @@ impl<S: Store> TwoWay<S> {
 impl<S: Store> Line for TwoWay<S> {
     ghost pool = { pools S.held };
 
-    ghost moves = { λ s w m t. Exact (put_by S.rule) w m (pools S.held s) (pools S.held t) };
+    ghost moves = { λ s w m t. Exact (put_by S.rule) w m (pools S.held s) (pools S.held t) × GivesBurst m };
 
-    ghost lawful = { λ s w m t e. by_rule S.rule S.adds m w (pools S.held s) (pools S.held t) e };
+    ghost lawful = { λ s w m t e. by_rule S.rule S.adds m w (pools S.held s) (pools S.held t) e.1 e.0 };
 
     // The way is matched in each call: a function that lends the store of a way would have to
     // promise what becomes of both.

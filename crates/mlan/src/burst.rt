@@ -63,7 +63,7 @@ impl Burst {
     }
 
     // Writes the burst over the first bytes that are lent, and answers its length: what a line
-    // does at a taking, which is lent 64 bytes by a rule of the project.
+    // does at a taking, which is lent 64 bytes by the rules of lines.
     pub fn write(&self, into: &mut [u8; 64]) -> usize
         ensures written { take result into.new ≡ self.now }
         ensures rest { drop result into.new ≡ drop result into.old }

@@ -1,4 +1,4 @@
-// MLAN bursts: the checksum, the frame, and the faults of a command.
+// MLAN bursts: the checksum, the frame, bursts that are kept, and the faults of a command.
 #![tactic(auto)]
 
 pub mod burst;

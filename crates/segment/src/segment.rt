@@ -44,8 +44,8 @@ impl Said {
 pub trait Segment {
     ghost machines: { Self → List Model };
 
-    // Runs a batch on the leftmost machine of an address: an amount for each component. (A struct
-    // of these two would be made for a single call, and taken apart in it.)
+    // Runs a batch on the leftmost machine of an address: an amount for each component. The two
+    // stay apart, since each is tested and refused by itself.
     fn batch(&mut self, address: u8, amounts: &[u32]) -> Result<(), Refusal>
         ensures answer { result ≡ drop_answer address amounts.now (machines self.old) }
         ensures machines { machines self.new ≡ drop_batched address amounts.now (machines self.old) };

@@ -14,7 +14,7 @@ use mlan::burst::Burst;
 use segment::segment::Segment;
 
 // What a serving took from the line, and the reply that it put.
-#[derive(Clone, Copy)]
+#[derive(Clone, Copy, Debug, PartialEq, Eq)]
 pub struct Exchange {
     pub taken: Option<Burst>,
     pub reply: Option<Burst>,
@@ -38,7 +38,7 @@ pub fn exchanged<L: Line, D: Segment>(line: &mut L, machines: &mut D) -> Exchang
 }
 
 // The same, with the reply, and zeros to its end, in the caller's buffer; answers the reply's
-// length, 0 where there is none (that, and the buffer, are rules of the project). A buffer that
+// length, by the rule of serving 0 where there is none (docs/PROTOCOL.md, Serving). A buffer that
 // is too short is refused before the line is touched.
 pub fn serve<L: Line, D: Segment>(
     line: &mut L,

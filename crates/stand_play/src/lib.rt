@@ -84,6 +84,7 @@ impl Stand {
         ensures event { result ≡ shown_event burst.now (hung self.old) }
         ensures stand { hung self.new ≡ option_map (λ m. after m burst.now) (hung self.old) }
     {
+        // a match, since a proof knows nothing of what a closure does behind a `&mut`
         Event::Reply(match self.machine.as_mut() {
             Some(machine) => machine.answer(burst),
             None => None,

@@ -1,7 +1,7 @@
 use wording::plate::Plate;
 
 // What a line of a stand's script asks for.
-#[derive(Drop)]
+#[derive(Debug, Drop, PartialEq, Eq)]
 pub enum Action {
     // To hang a machine on the stand.
     Hang(Plate),

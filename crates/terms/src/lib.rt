@@ -3,7 +3,7 @@
 
 ghost use Rattle.std.specs.Prelude.{◌≡◌};
 ghost use Rattle.terms.specs.Refusals.{number_of};
-ghost use Rattle.terms.specs.Fields.{system, unit_of, software_of, coded, units_of, function_of, function_limit, tag_of, tag_letters, tag_value};
+ghost use Rattle.terms.specs.Fields.{system, unit_of, software_of, coded, units_code, units_of, function_code, function_of, function_limit, tag_of, tag_letters, tag_value};
 
 pub mod address;
 pub mod word;
@@ -51,11 +51,11 @@ impl TryFrom<u8> for Unit {
     }
 }
 
-// The software types, by their codes.
+// The software types, whose codes are 4 and 12.
 #[derive(Clone, Copy, Debug, PartialEq, Eq)]
 pub enum Software {
-    Four = 4,
-    Twelve = 12,
+    Four,
+    Twelve,
 }
 
 impl TryFrom<u8> for Software {
@@ -101,6 +101,14 @@ impl TryFrom<u8> for WeightUnits {
     }
 }
 
+impl From<WeightUnits> for u8 {
+    ghost from_gives = { λ units code. code ≡ units_code units };
+
+    fn from(units: WeightUnits) -> u8 {
+        units as u8
+    }
+}
+
 // The two functions whose values can be set, by their codes. Those are packed decimals:
 // a machine's keypad shows 82 as *52 and 130 as *82.
 #[derive(Clone, Copy, Debug, PartialEq, Eq)]
@@ -120,6 +128,14 @@ impl TryFrom<u8> for Function {
             130 => Ok(Function::F130),
             _ => Err(UnknownCode(code)),
         }
+    }
+}
+
+impl From<Function> for u8 {
+    ghost from_gives = { λ function code. code ≡ function_code function };
+
+    fn from(function: Function) -> u8 {
+        function as u8
     }
 }
 

@@ -4,7 +4,7 @@ ghost use Rattle.wording.specs.Texts.{spaced};
 use std::fmt;
 
 // Bytes that are printed in base ten, each behind a space.
-#[derive(Clone, Copy)]
+#[derive(Clone, Copy, Debug, PartialEq, Eq)]
 pub struct Spaced<'a>(pub &'a [u8]);
 
 impl fmt::Display for Spaced<'_> {

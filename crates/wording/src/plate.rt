@@ -1,4 +1,4 @@
-ghost use Rattle.std.specs.Prelude.{◌≡◌, ◌<◌, length, OnSome, Some};
+ghost use Rattle.std.specs.Prelude.{◌≡◌, ◌<◌, length, IfNone, OnSome, Some};
 ghost use Rattle.std.specs.Option.{option_map};
 ghost use Rattle.script.specs.Words.{words};
 ghost use Rattle.wording.specs.Plates.{plate_in};
@@ -17,20 +17,24 @@ pub struct Plate {
 }
 
 impl Plate {
-    // The plate that the next three words of a line say. Where they say none, some of them
-    // may have been taken all the same.
+    // The plate that the next three words of a line say, which are taken. Where they say none,
+    // the line stays as it was.
     pub fn read(line: &mut Words) -> Option<Plate>
         ensures plate { option_map (λ p. (p, words line.new)) result ≡ plate_in (words line.old) }
         ensures shorter { OnSome result (length line.new < length line.old) }
+        ensures kept { IfNone result (line.new ≡ line.old) }
     {
-        let address = line.next()?;
-        let kind = line.next()?;
-        let unit = line.next()?;
-        Some(Plate {
+        let mut ahead = Words::of(line.rest());
+        let address = ahead.next()?;
+        let kind = ahead.next()?;
+        let unit = ahead.next()?;
+        let plate = Plate {
             address: u8::from_word(address)?,
             kind: KindName::try_from(kind).ok()?,
             unit: Unit::try_from(unit).ok()?,
-        })
+        };
+        *line = ahead;
+        Some(plate)
     }
 }
 

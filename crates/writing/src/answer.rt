@@ -103,7 +103,7 @@ impl Answer {
                 draft.append(&[0; 16]);
             }
             Answer::Version { characters } => draft.append(characters),
-            Answer::DisplayUnits { units } => draft.append(&[*units as u8]),
+            Answer::DisplayUnits { units } => draft.append(&[u8::from(*units)]),
         }
     }
 }

@@ -87,11 +87,11 @@ impl Request {
         match self {
             Request::SetSettings(sheet) => draft.put_sheet(sheet),
             Request::SetFunction { function, value } => {
-                draft.append(&[*function as u8]);
+                draft.append(&[u8::from(*function)]);
                 draft.put(u16::from(*value));
             }
             Request::GetFunctions => draft.append(&[0]),
-            Request::SetUnits { units } => draft.append(&[*units as u8]),
+            Request::SetUnits { units } => draft.append(&[u8::from(*units)]),
             Request::SetKeypad { flag } => draft.append(&[u8::from(*flag)]),
             Request::SetTag { tag } => {
                 draft.append(&tag.letters());
