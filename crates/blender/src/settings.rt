@@ -14,7 +14,8 @@ pub struct Settings {
 }
 
 impl Settings {
-    // Zero everywhere.
+    // Zero everywhere. It is written out, since a derived default says of an array only that
+    // each of its elements is a default.
     pub(crate) fn new() -> Settings
         ensures { result ≡ new_settings }
     {

@@ -1,19 +1,9 @@
 // Plays the machine's test cases: a stand's script in which each `machine` line begins anew.
-// It shares `Stand::play` with the program `stand`; what is left is reading and printing.
+// It shares `tell` with the program `stand`; what is left is reading.
 #![tactic(auto)]
 
-use stand_play::Stand;
+use stand_play::{Stand, tell};
 use std::io::{BufRead, BufReader};
-
-fn play(rt: &HostRuntime, stand: &mut Stand, line: &[u8], number: u64) -> anyhow::Result<()> {
-    // a match and no `?`, which gets no proof here where the value may hold a `Burst`
-    match stand.play(rt.alloc(), line, number) {
-        Ok(Some(event)) => println!(rt; "{event}")?,
-        Ok(None) => {}
-        Err(fault) => return Err(fault.into()),
-    }
-    Ok(())
-}
 
 fn run(rt: &HostRuntime) -> anyhow::Result<()> {
     let mut stand = Stand::new();
@@ -23,7 +13,7 @@ fn run(rt: &HostRuntime) -> anyhow::Result<()> {
         if line.as_slice().starts_with(b"machine") {
             stand = Stand::new();
         }
-        play(rt, &mut stand, line.as_slice(), number)?;
+        tell(rt, &mut stand, line.as_slice(), number)?;
     }
     Ok(())
 }

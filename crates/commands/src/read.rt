@@ -65,10 +65,10 @@ fn read_units(bytes: &[u8]) -> Result<Command<'_>, CommandFault>
     let [code] = bytes else {
         return Err(length_fault(bytes));
     };
-    match WeightUnits::try_from(*code) {
-        Ok(units) => Ok(Command::SetUnits { units }),
-        Err(_) => Err(CommandFault::Field { at: 2 }),
-    }
+    let Ok(units) = WeightUnits::try_from(*code) else {
+        return Err(CommandFault::Field { at: 2 });
+    };
+    Ok(Command::SetUnits { units })
 }
 
 fn read_keypad(bytes: &[u8]) -> Result<Command<'_>, CommandFault>
@@ -129,6 +129,8 @@ fn read_settings<K: Kind>(bytes: &[u8]) -> Result<Command<'_>, CommandFault>
     }))
 }
 
+// Codes are numbers: a burst may have any, and an enum of them would be matched at once again,
+// here and where kinds, answers and requests name theirs.
 fn read_data<K: Kind>(code: u8, bytes: &[u8]) -> Result<Command<'_>, CommandFault>
     ensures { reading result ≡ by_code K.Kind.facts code bytes.now }
 {

@@ -7,7 +7,7 @@ ghost use Rattle.kinds.specs.Kinds.{KindFacts, place_told, feeder_code, known_co
 
 // What a kind tells: what is one value as a constant, the rest by a function.
 pub trait Kind {
-    // a number, as a reply shows it
+    // a number, since an `Answer` may show any
     const SOFTWARE: u8;
 
     const COMPONENTS: usize;

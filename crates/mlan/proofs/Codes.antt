@@ -1,5 +1,5 @@
 -- What was read has the code of its burst, and fields in their ranges.
-use Rattle.std.proofs.Common.{◌≡◌, ℕ, zero, suc, ◌+◌, ◌-◌, ◌<◌, ◌≤◌, Bool, true, false, cond, eqb, leb, List, [], ◌∷◌, length, get_or, take, drop, Some, None, Ok, Err, Option, Result, sym, refl, subst, arith, get_or-drop}
+use Rattle.std.proofs.Common.{◌≡◌, ℕ, zero, suc, ◌+◌, ◌-◌, ◌<◌, ◌≤◌, Bool, true, false, cond, eqb, leb, List, [], ◌∷◌, length, get_or, take, drop, Some, None, Ok, Err, Option, Result, is_ok, sym, refl, ap, subst, arith, get_or-drop}
 use Rattle.std.proofs.lemmas.Bool.{eqb-true, leb-true}
 use Rattle.kinds.specs.Kinds.{KindFacts}
 use Rattle.terms.specs.Fields.{units_of, function_of, function_limit, tag_of}
@@ -14,6 +14,7 @@ use Rattle.mlan.specs.Commands.{Said, get_totals, set_settings, get_settings, ge
 use Rattle.mlan.specs.Frame.{Piece, code_of, data_of}
 use Rattle.mlan.specs.Numbers.{Bytes, two_at, four_at}
 use Rattle.mlan.specs.Rows.{rows_fault, rows_in, RowsPass}
+use Rattle.mlan.proofs.Readings.{no_reading}
 use Rattle.mlan.proofs.RowsBack.{rows_pass}
 use Rattle.mlan.specs.declared.fault.CommandFault.{CommandFault}
 use Rattle.mlan.specs.declared.fault.CommandFault.TheVariants.{Unsound, Code, Length, Field}
@@ -40,7 +41,7 @@ module _ (P : Said → Type 0) where
   just t p s e = let same : t ≡ s = cc in subst P same p
 
   nothing : (f : CommandFault) → All (faults f)
-  nothing f s e = let z : ◌≡◌ {A = ℕ} 0 1 = cc in absurd (omega arith)
+  nothing f s e = absurd (no_reading f s e)
 
   either : (b : Bool) (x y : Reading) → All x → All y → All (cond b x y)
   either true x y p q = p
@@ -154,20 +155,26 @@ Fits k (set_units units) = Unit {0}
 Fits k (set_keypad flag) = Unit {0}
 Fits k (set_tag letters tag) = TagFits tag
 
-limited : (limit v : ℕ) (t : ℕ → Tag) (tag : Tag) → cond (leb v limit) (Ok (t v)) (Err Value) ≡ Ok tag → (v ≤ limit) × (tag ≡ t v)
-limited limit v t tag = go (leb v limit) refl
+-- a value that a tag takes is in its limit, and the tag is the one that was meant
+pub limited : (limit v : ℕ) (t : Tag) → is_ok {T = Tag} {E = TagFault} (cond (leb v limit) (Ok t) (Err Value)) ≡ true → (v ≤ limit) × (cond (leb v limit) (Ok t) (Err Value) ≡ Ok t)
+limited limit v t = go (leb v limit) refl
   where
-    go : (b : Bool) → leb v limit ≡ b → cond b (Ok (t v)) (Err Value) ≡ Ok tag → (v ≤ limit) × (tag ≡ t v)
-    go true f e = let same : t v ≡ tag = cc in (leb-true v limit f, sym same)
+    go : (b : Bool) → leb v limit ≡ b → is_ok {T = Tag} {E = TagFault} (cond b (Ok t) (Err Value)) ≡ true → (v ≤ limit) × (cond b (Ok t) (Err Value) ≡ Ok t)
+    go true f e = (leb-true v limit f, refl)
     go false f e = let z : ◌≡◌ {A = ℕ} 0 1 = cc in absurd (omega arith)
 
 tag_fits : (letters : List ℕ) (v : ℕ) (tag : Tag) → tag_of letters v ≡ Ok tag → TagFits tag
 tag_fits letters v tag = by_letters _ _ _
   where
+    fits : (limit : ℕ) (t : Tag) → cond (leb v limit) (Ok t) (Err Value) ≡ Ok tag → (v ≤ limit → TagFits t) → TagFits tag
+    fits limit t e of =
+        let w = limited limit v t (ap is_ok e) in
+        let same : t ≡ tag = cc in subst TagFits same (of w.0)
+
     by_letters : (rc wo op : Bool) → cond rc (cond (leb v 65535) (Ok (Recipe v)) (Err Value)) (cond wo (cond (leb v 999999) (Ok (WorkOrder v)) (Err Value)) (cond op (cond (leb v 999) (Ok (Operator v)) (Err Value)) (Err Letters))) ≡ Ok tag → TagFits tag
-    by_letters true wo op e = let w = limited 65535 v Recipe tag e in subst TagFits (sym w.1) (omega (arith, w.0))
-    by_letters false true op e = let w = limited 999999 v WorkOrder tag e in subst TagFits (sym w.1) w.0
-    by_letters false false true e = let w = limited 999 v Operator tag e in subst TagFits (sym w.1) w.0
+    by_letters true wo op e = fits 65535 (Recipe v) e λ h. omega (arith, h)
+    by_letters false true op e = fits 999999 (WorkOrder v) e λ h. h
+    by_letters false false true e = fits 999 (Operator v) e λ h. h
     by_letters false false false e = let z : ◌≡◌ {A = ℕ} 0 1 = cc in absurd (omega arith)
 
 -- a part of bytes is bytes

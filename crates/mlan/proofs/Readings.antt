@@ -15,7 +15,8 @@ Agree x y = (s t : Said) → x ≡ reads s → y ≡ reads t → s ≡ t
 itself : (x : Reading) → Agree x x
 itself x s t p q = cc
 
-no_reading : (f : CommandFault) (s : Said) → faults f ≡ reads s → ⊥
+-- a fault is no command that was read
+pub no_reading : (f : CommandFault) (s : Said) → faults f ≡ reads s → ⊥
 no_reading f s e = let z : ◌≡◌ {A = ℕ} 0 1 = cc in omega arith
 
 by_test : (b : Bool) (x x' y y' : Reading) → Agree x x' → Agree y y' → Agree (cond b x y) (cond b x' y')

@@ -1,5 +1,6 @@
 -- Rows come back: what `rows_bytes` writes, `row_piece` finds, wherever in a burst it stands; and rows without a fault are the kind's.
 use Rattle.std.proofs.Common.{◌≡◌, ℕ, zero, suc, ◌+◌, ◌-◌, ◌*◌, ◌<◌, ◌≤◌, Bool, true, false, cond, eqb, leb, List, [], ◌∷◌, length, get_or, take, drop, Some, None, Option, sym, refl, ap, ◌∙◌, inl, inr, arith, length-append}
+use Rattle.std.specs.List.{flat_map}
 use Rattle.std.proofs.lemmas.List.FromFn.{length-map-range_with_len}
 use Rattle.std.proofs.lemmas.Bool.{and_from, leb-true, le-leb, eq-eqb, cond-true, cases_eq}
 use Rattle.kinds.specs.Kinds.{KindFacts}
@@ -10,9 +11,13 @@ use Rattle.mlan.specs.Numbers.{two_at}
 use Rattle.mlan.specs.Rows.{row_bytes, rows_bytes, is_whole, row_piece, row_found, greatest_type, greatest_setting, found_fault, or_else, faults_from, rows_fault, row_of, row_at, rows_in, zero_row, RowsPass}
 use Rattle.mlan.proofs.Numerals.{two_back}
 
+-- what is written with as many bytes for each has that many times as many
+pub length_each : {X : Type 0} (f : X → List ℕ) (k : ℕ) → ((x : X) → length (f x) ≡ k) → (xs : List X) → length (flat_map f xs) ≡ k * length xs
+length_each f k same [] = omega arith
+length_each f k same (x ∷ xs) = length-append (f x) (flat_map f xs) ∙ omega (arith, same x, length_each f k same xs)
+
 pub length_rows : (rows : List Row) → length (rows_bytes rows) ≡ 3 * length rows
-length_rows [] = refl
-length_rows (r ∷ rows) = length-append (row_bytes r) (rows_bytes rows) ∙ omega (arith, length_rows rows)
+length_rows = length_each row_bytes 3 λ r. refl
 
 three_of : (rows : List Row) (i : ℕ) → i < length rows → take 3 (drop (3 * i) (rows_bytes rows)) ≡ row_bytes (get_or rows i zero_row)
 three_of [] i h = absurd (omega arith)

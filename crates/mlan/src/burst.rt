@@ -6,7 +6,7 @@ use std::marker::Model;
 
 // A burst that is kept: 1 to 64 bytes that arrive together. In a contract it is the list of
 // these bytes. The bytes behind them are zero. It has an array and a length, and no `ArrayVec`,
-// to be `Copy`.
+// to be `Copy`, as exchanges, replies and a carrier's slots want it.
 #[derive(Clone, Copy, Debug, PartialEq, Eq)]
 pub struct Burst {
     bytes: [u8; 64],

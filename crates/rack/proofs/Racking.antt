@@ -1,77 +1,88 @@
 -- A rack's machines, one after the other.
-use Rattle.std.proofs.Common.{◌≡◌, ℕ, ◌+◌, ◌<◌, Bool, true, cond, eqb, List, [], ◌∷◌, ◌++◌, map, length, get_or, take, drop, set, Some, None, Err, Result, sym, ap, ◌∙◌, add-one, arith, drop-cons, drop-set-lt, eq-eqb, ne_eqb}
+use Rattle.std.proofs.Common.{◌≡◌, ℕ, suc, ◌+◌, ◌<◌, ◌≤◌, Bool, true, false, cond, not, eqb, List, [], ◌∷◌, ◌++◌, map, length, get_or, take, drop, set, position, Some, None, Err, sym, refl, subst, ap, ◌∙◌, add-one, arith, drop-cons, drop-set-lt}
 use Rattle.std.proofs.lemmas.List.{map-append}
-use Rattle.std.proofs.lemmas.List.{set_split, set-get_or}
+use Rattle.std.proofs.lemmas.Grind.{common_steps}
+use Rattle.std.proofs.lemmas.List.Elements.{filter_map-append}
+use Rattle.std.specs.List.{position_or_len}
 use Rattle.std.proofs.lemmas.List.{take_more, take_more_set}
 use Rattle.terms.specs.Addresses.{is_address}
-use Rattle.terms.specs.declared.Refusal.{Refusal}
 use Rattle.terms.specs.declared.Refusal.TheVariants.{NoAddress, NoMachine}
-use Rattle.blender.specs.Machines.{Model}
+use Rattle.blender.specs.Machines.{Model, reply, after}
 use Rattle.blender.specs.Batches.{if_accepted}
-use Rattle.segment.specs.Drops.{machine_answer, drop_answer, leftmost_filled, drop_batched, replies, shown}
+use Rattle.segment.specs.Drops.{leftmost, machine_answer, drop_answer, leftmost_filled, drop_batched, replies, shown}
 use Rattle.segment.specs.Saying.{said_of, joined_said}
 use Rattle.segment.specs.declared.segment.Said.{Said}
 use Rattle.segment.proofs.Joins.{none_there, batch_left, batch_right}
-use Rattle.segment.proofs.Says.{replies_append, shown_append, joins_said}
+use Rattle.segment.proofs.Says.{joins_said}
 use Rattle.rack.specs.Racks.{any_model, even_batched}
+use Rattle.rack.specs.Hanging.{has_address}
 use Rattle.rack.specs.declared.AnyMachine.{AnyMachine}
 
 abbrev pub models : List AnyMachine → List Model
 models xs = map any_model xs
 
--- the machine at i, the one that takes its place, those before it and those behind it
-module _ (xs : List AnyMachine) (i : ℕ) (d : AnyMachine) (within : i < length xs) where
-  pub one_more : models (take (i + 1) xs) ≡ models (take i xs) ++ any_model (get_or xs i d) ∷ []
-  one_more = ap models (take_more xs i d within) ∙ map-append any_model (take i xs) (get_or xs i d ∷ [])
+pub one_more : (xs : List AnyMachine) (i : ℕ) (d : AnyMachine) → i < length xs → models (take (i + 1) xs) ≡ models (take i xs) ++ any_model (get_or xs i d) ∷ []
+one_more xs i d within = ap models (take_more xs i d within) ∙ map-append any_model (take i xs) (get_or xs i d ∷ [])
 
-  pub changed : (v : AnyMachine) → models (set xs i v) ≡ models (take i xs) ++ any_model v ∷ models (drop (i + 1) xs)
-  changed v = ap models (rw (← add-one) at (set_split xs i v within)) ∙ map-append any_model (take i xs) (v ∷ drop (i + 1) xs)
+-- a batch, for a sound address
+module _ (a : ℕ) (ns : List ℕ) (good : is_address a ≡ true) where
+  abbrev place : List AnyMachine → ℕ
+  place xs = position_or_len (has_address a) xs
 
-  pub in_three : models xs ≡ models (take i xs) ++ any_model (get_or xs i d) ∷ models (drop (i + 1) xs)
-  in_three = ap models (sym (set-get_or xs i d)) ∙ changed (get_or xs i d)
+  nowhere : (xs : List AnyMachine) → length xs ≤ place xs → leftmost a (models xs) ≡ None
+  nowhere [] = λ l. refl
+  nowhere (x ∷ xs) = go (nowhere xs) (eqb a (any_model x).address)
+    where
+      go : (length xs ≤ place xs → leftmost a (models xs) ≡ None) → (here : Bool) → suc (length xs) ≤ cond (not here) (1 + place xs) 0
+          → cond here (Some (any_model x)) (leftmost a (models xs)) ≡ None
+      go behind true l = absurd (omega arith)
+      go behind false l = behind (omega arith)
 
--- a batch: no machine so far has the address
-module _ (a : ℕ) (ns : List ℕ) where
-  abbrev one_answer : Bool → Bool → Model → Result (Unit {0}) Refusal
-  one_answer good same m = cond good (machine_answer ns (cond same (Some m) None)) (Err NoAddress)
+  -- no machine of a rack has the address
+  pub batch_nowhere : (xs : List AnyMachine) → position (has_address a) xs ≡ None → (Err NoMachine ≡ drop_answer a ns (models xs)) × (models xs ≡ drop_batched a ns (models xs))
+  batch_nowhere xs e =
+      let past : length xs ≤ place xs = grind (arith, common_steps) in
+      let none : drop_answer a ns (models xs) ≡ Err NoMachine = ap (λ t. cond t (machine_answer ns (leftmost a (models xs))) (Err NoAddress)) good ∙ ap (machine_answer ns) (nowhere xs past) in
+      (sym none, sym (ap (λ r. if_accepted r (leftmost_filled a ns (models xs)) (models xs)) none))
 
-  elsewhere : (m : Model) → is_address a ≡ true → (a ≡ m.address → ⊥) → drop_answer a ns (m ∷ []) ≡ Err NoMachine
-  elsewhere m good ne = ap (λ t. one_answer t (eqb a m.address) m) good ∙ ap (λ t. one_answer true t m) (ne_eqb a m.address ne)
+  -- a batch at the machine m alone is one at all of them
+  abbrev SameAt : AnyMachine → AnyMachine → List AnyMachine → List AnyMachine → Type 0
+  SameAt m v xs ys = any_model v ∷ [] ≡ drop_batched a ns (any_model m ∷ [])
+      → (drop_answer a ns (any_model m ∷ []) ≡ drop_answer a ns (models xs)) × (models ys ≡ drop_batched a ns (models xs))
 
-  pub none_yet : (xs : List AnyMachine) (i : ℕ) (d : AnyMachine) → i < length xs → ((any_model (get_or xs i d)).address ≡ a → ⊥) → drop_answer a ns (models (take i xs)) ≡ Err NoMachine
-      → drop_answer a ns (models (take (i + 1) xs)) ≡ Err NoMachine
-  none_yet xs i d within other e =
-      let m = any_model (get_or xs i d) in
-      ap (drop_answer a ns) (one_more xs i d within)
-      ∙ sym (batch_right a ns (models (take i xs)) (m ∷ []) e).0
-      ∙ elsewhere m (none_there a ns (models (take i xs)) e).0 (λ same. other (sym same))
+  not_none : (m : Model) → Some m ≡ None → ⊥
+  not_none m e = let z : ◌≡◌ {A = ℕ} 0 1 = cc in omega arith
 
-  found : (m : Model) → m.address ≡ a → drop_answer a ns (m ∷ []) ≡ Err NoMachine → ⊥
-  found m same e =
-      let none : None ≡ Some m = sym (none_there a ns (m ∷ []) e).1 ∙ ap (λ t. cond t (Some m) None) (eq-eqb a m.address (sym same)) in
-      let z : ◌≡◌ {A = ℕ} 0 1 = cc in omega arith
+  at_place : (d v : AnyMachine) (xs : List AnyMachine) → place xs < length xs → SameAt (get_or xs (place xs) d) v xs (set xs (place xs) v)
+  at_place d v [] = λ l. absurd (omega arith)
+  at_place d v (x ∷ xs) = go (at_place d v xs) (eqb a (any_model x).address) refl
+    where
+      go : (place xs < length xs → SameAt (get_or xs (place xs) d) v xs (set xs (place xs) v)) → (here : Bool) → eqb a (any_model x).address ≡ here
+          → cond (not here) (1 + place xs) 0 < suc (length xs)
+          → SameAt (get_or (x ∷ xs) (cond (not here) (1 + place xs) 0) d) v (x ∷ xs) (set (x ∷ xs) (cond (not here) (1 + place xs) 0) v)
+      go behind true is l = λ new.
+          let left = batch_left a ns (any_model x ∷ []) (models xs) (λ e. not_none (any_model x) (sym (ap (λ t. cond t (Some (any_model x)) None) is) ∙ (none_there a ns (any_model x ∷ []) e).1)) in
+          (left.0, ap (λ (l : List Model). l ++ models xs) new ∙ left.1)
+      go behind false is l =
+          let none : drop_answer a ns (any_model x ∷ []) ≡ Err NoMachine =
+          ap (λ t. cond t (machine_answer ns (cond (eqb a (any_model x).address) (Some (any_model x)) None)) (Err NoAddress)) good
+          ∙ ap (λ t. machine_answer ns (cond t (Some (any_model x)) None)) is in
+          let right = batch_right a ns (any_model x ∷ []) (models xs) none in
+          let one : suc (place xs) ≡ 1 + place xs = omega arith in
+          subst (λ n. SameAt (get_or (x ∷ xs) n d) v (x ∷ xs) (set (x ∷ xs) n v)) one (λ new.
+          let rest = behind (omega arith) new in (
+            rest.0 ∙ right.0,
+            ap (λ (l : List Model). any_model x ∷ l) rest.1
+                ∙ ap (λ (l : List Model). l ++ drop_batched a ns (models xs)) (sym (ap (λ r. if_accepted r (leftmost_filled a ns (any_model x ∷ [])) (any_model x ∷ [])) none))
+                ∙ right.1,
+          ))
 
-  pub none_changed : (ms : List Model) → drop_answer a ns ms ≡ Err NoMachine → drop_batched a ns ms ≡ ms
-  none_changed ms e = ap (λ r. if_accepted r (leftmost_filled a ns ms) ms) e
-
-  pub batch_here : (xs : List AnyMachine) (i : ℕ) (d v : AnyMachine) (r : Result (Unit {0}) Refusal) → i < length xs → (any_model (get_or xs i d)).address ≡ a → drop_answer a ns (models (take i xs)) ≡ Err NoMachine
-      → r ≡ drop_answer a ns (any_model (get_or xs i d) ∷ []) → any_model v ∷ [] ≡ drop_batched a ns (any_model (get_or xs i d) ∷ [])
-      → (r ≡ drop_answer a ns (models xs)) × (models (set xs i v) ≡ drop_batched a ns (models xs))
-  batch_here xs i d v r within same e answer after =
-      let m = any_model (get_or xs i d) in
-      let front = models (take i xs) in
-      let back = models (drop (i + 1) xs) in
-      let all = in_three xs i d within in
-      let right = batch_right a ns front (m ∷ back) e in
-      let left = batch_left a ns (m ∷ []) back (found m same) in (
-        answer ∙ left.0 ∙ right.0 ∙ ap (drop_answer a ns) (sym all),
-        changed xs i d within v
-            ∙ ap (λ (l : List Model). front ++ (l ++ back)) after
-            ∙ ap (λ (l : List Model). front ++ l) left.1
-            ∙ ap (λ (l : List Model). l ++ drop_batched a ns (m ∷ back)) (sym (none_changed front e))
-            ∙ right.1
-            ∙ ap (drop_batched a ns) (sym all),
-      )
+  -- a batch at the leftmost machine of the address
+  pub batch_at : (m v : AnyMachine) (xs : List AnyMachine) (i : ℕ) → position (has_address a) xs ≡ Some i → m ≡ get_or xs i m → SameAt m v xs (set xs i v)
+  batch_at m v xs i e here =
+      let at : place xs ≡ i = grind (arith, common_steps) in
+      let within : place xs < length xs = grind (arith, common_steps) in
+      subst (λ n. SameAt n v xs (set xs i v)) (sym here) (subst (λ n. SameAt (get_or xs n m) v xs (set xs n v)) at (at_place m v xs within))
 
 -- a burst: what the machines so far have said and become
 abbrev pub Shown : List ℕ → List AnyMachine → List AnyMachine → ℕ → Said → Type 0
@@ -92,8 +103,8 @@ module _ (b : List ℕ) (old xs : List AnyMachine) (i : ℕ) (d : AnyMachine) (w
       let same = same_here inv.0 in
       let past = models (take i old) in
       let grown = one_more old i d within-old in
-      let heard : replies b (models (take (i + 1) old)) ≡ replies b past ++ replies b (m ∷ []) = ap (replies b) grown ∙ replies_append b past (m ∷ []) in
-      let seen : shown b (models (take (i + 1) old)) ≡ shown b past ++ shown b (m ∷ []) = ap (shown b) grown ∙ shown_append b past (m ∷ []) in
+      let heard : replies b (models (take (i + 1) old)) ≡ replies b past ++ replies b (m ∷ []) = ap (replies b) grown ∙ filter_map-append (λ n. reply n b) past (m ∷ []) in
+      let seen : shown b (models (take (i + 1) old)) ≡ shown b past ++ shown b (m ∷ []) = ap (shown b) grown ∙ map-append (λ n. after n b) past (m ∷ []) in
       let put : models (take (i + 1) (set xs i v)) ≡ models (take i xs) ++ any_model v ∷ [] = ap models (take_more_set xs i v within) ∙ map-append any_model (take i xs) (v ∷ []) in
       let new : any_model v ∷ [] ≡ shown b (m ∷ []) = becomes ∙ ap (λ (x : AnyMachine). shown b (any_model x ∷ [])) same.0 in
       let word : next ≡ said_of (replies b (m ∷ [])) = says ∙ ap (λ (x : AnyMachine). said_of (replies b (any_model x ∷ []))) same.0 in (

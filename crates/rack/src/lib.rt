@@ -75,6 +75,7 @@ impl AnyMachine {
         ensures machine { any_model self.new ≡ even_batched amount (any_model self.old) }
     {
         let address = self.address();
+        // an array of `K::COMPONENTS` amounts would need a computed length, which the language lacks
         match self {
             AnyMachine::OfFour(m) => Machine::batch(m, address, &[amount; 4]),
             AnyMachine::OfTwelve(m) => Machine::batch(m, address, &[amount; 12]),
@@ -91,6 +92,6 @@ impl Segment for AnyMachine {
     }
 
     fn show(&mut self, burst: &[u8]) -> Said {
-        self.answer(burst).map_or(Said::Nothing, Said::Reply)
+        self.answer(burst).into()
     }
 }

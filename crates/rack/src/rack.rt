@@ -1,6 +1,6 @@
-ghost use Rattle.std.specs.Prelude.{◌≡◌, ◌<◌, [], ◌∷◌, ◌++◌, map, length, MatchResult, ◌==◌};
+ghost use Rattle.std.specs.Prelude.{◌≡◌, ◌<◌, [], ◌∷◌, ◌++◌, map, length, position, MatchResult, ◌==◌};
 ghost use Rattle.rack.specs.Racks.{any_model, even_batched};
-ghost use Rattle.rack.specs.Hanging.{racked, Unhung};
+ghost use Rattle.rack.specs.Hanging.{racked, has_address, Unhung};
 ghost use Rattle.rack.specs.declared.rack.RackFault.TheVariants.{Memory};
 
 use super::AnyMachine;
@@ -68,18 +68,22 @@ impl Rack {
     }
 }
 
+// The place of the leftmost machine of an address.
+fn place_of(machines: &[AnyMachine], address: u8) -> Option<usize>
+    ensures { result ≡ position (has_address address) machines.now }
+{
+    machines
+        .iter()
+        .position(|machine| machine.address() == address)
+}
+
 impl Segment for Rack {
     ghost machines = { racked };
 
     fn batch(&mut self, address: u8, amounts: &[u32]) -> Result<(), Refusal> {
         Address::new(address)?;
-        // a loop and no `find`, of whose answer a proof does not know which machine it is
-        for machine in self.machines.iter_mut() {
-            if machine.address() == address {
-                return Segment::batch(machine, address, amounts);
-            }
-        }
-        Err(Refusal::NoMachine)
+        let at = place_of(&self.machines, address).ok_or(Refusal::NoMachine)?;
+        Segment::batch(&mut self.machines[at], address, amounts)
     }
 
     fn show(&mut self, burst: &[u8]) -> Said {

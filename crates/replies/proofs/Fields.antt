@@ -1,14 +1,14 @@
 -- Twelve numbers of four bytes come back from where they were written.
-use Rattle.std.proofs.Common.{◌≡◌, ℕ, zero, suc, ◌+◌, ◌-◌, ◌*◌, ◌<◌, ◌≤◌, List, [], ◌∷◌, ◌++◌, length, get_or, sym, refl, ◌∙◌, arith, length-append}
+use Rattle.std.proofs.Common.{◌≡◌, ℕ, zero, suc, ◌+◌, ◌-◌, ◌*◌, ◌<◌, ◌≤◌, List, [], ◌∷◌, ◌++◌, length, get_or, sym, refl, ◌∙◌, arith}
 use Rattle.terms.proofs.EachPlace.{filled_all}
 use Rattle.mlan.specs.Numbers.{four, fours, four_at}
 use Rattle.mlan.proofs.Numerals.{four_back}
+use Rattle.mlan.proofs.RowsBack.{length_each}
 use Rattle.writing.proofs.Behind.{four_behind}
 use Rattle.replies.specs.Replies.{total_at, totals_in}
 
 pub length_fours : (ns : List ℕ) → length (fours ns) ≡ 4 * length ns
-length_fours [] = refl
-length_fours (n ∷ ns) = length-append (four n) (fours ns) ∙ omega (arith, length_fours ns)
+length_fours = length_each four 4 λ n. refl
 
 -- the number at i of numbers of four bytes
 four_of : (ns : List ℕ) (i : ℕ) → i < length ns → get_or ns i 0 < 4294967296 → four_at (fours ns) (4 * i) ≡ get_or ns i 0

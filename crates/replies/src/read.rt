@@ -1,5 +1,7 @@
 ghost use Rattle.std.specs.Prelude.{◌≡◌, ◌+◌, ◌≤◌, length};
+ghost use Rattle.std.specs.Option.{ok_or};
 ghost use Rattle.kinds.specs.Kinds.{all_characters};
+ghost use Rattle.terms.specs.Fields.{unit_of, software_of};
 ghost use Rattle.mlan.specs.Frame.{piece};
 ghost use Rattle.mlan.specs.Rows.{rows_fault};
 ghost use Rattle.replies.specs.Replies.{marked_of, total_at, totals_in, shown_facts, as_totals, as_settings, as_type, as_functions, as_version, as_units, told_by};
@@ -11,7 +13,7 @@ use kinds::{Four, Twelve};
 use mlan::frame::Part;
 use rows::rows_fault;
 use std::array;
-use terms::{Counts, Sheet, Software, Unit, WeightUnits};
+use terms::{Counts, Function, Sheet, Software, Unit, WeightUnits};
 
 // The fault of data of a wrong length: the burst has three bytes more. `commands` has the same
 // two lines with another fault; a trait for both faults would be longer than both.
@@ -21,6 +23,20 @@ pub(crate) fn length_fault(bytes: &[u8]) -> MessageFault
     MessageFault::Malformed {
         at: bytes.len() + 3,
     }
+}
+
+// The unit of a system byte with the change mark down.
+fn unit_in(system: u8) -> Result<Unit, MessageFault>
+    ensures { result ≡ ok_or (unit_of system) (MessageFault.Malformed 2) }
+{
+    Unit::try_from(system).map_err(|_| MessageFault::Malformed { at: 2 })
+}
+
+// The software type stands behind the system byte.
+fn software_in(code: u8) -> Result<Software, MessageFault>
+    ensures { result ≡ ok_or (software_of code) (MessageFault.Malformed 3) }
+{
+    Software::try_from(code).map_err(|_| MessageFault::Malformed { at: 3 })
 }
 
 // In a settings reply the system byte tells the change mark too. A unit with a mark is no type
@@ -61,12 +77,8 @@ fn read_totals(reset: bool, bytes: &[u8]) -> Result<Reply<'_>, MessageFault>
     if bytes.len() != 56 {
         return Err(length_fault(bytes));
     }
-    let Ok(unit) = Unit::try_from(bytes[0]) else {
-        return Err(MessageFault::Malformed { at: 2 });
-    };
-    let Ok(software) = Software::try_from(bytes[1]) else {
-        return Err(MessageFault::Malformed { at: 3 });
-    };
+    let unit = unit_in(bytes[0])?;
+    let software = software_in(bytes[1])?;
     let counts = Counts {
         totals: totals_in(bytes),
         cycles: u16::from_be_bytes([bytes[4], bytes[5]]),
@@ -101,9 +113,7 @@ fn read_settings(bytes: &[u8]) -> Result<Reply<'_>, MessageFault>
     let Some((unit, mark)) = marked_of(bytes[0]) else {
         return Err(MessageFault::Malformed { at: 2 });
     };
-    let Ok(software) = Software::try_from(bytes[1]) else {
-        return Err(MessageFault::Malformed { at: 3 });
-    };
+    let software = software_in(bytes[1])?;
     let rows = Part {
         at: 4,
         bytes: &bytes[2..38],
@@ -138,12 +148,8 @@ fn read_type(bytes: &[u8]) -> Result<Reply<'_>, MessageFault>
     let [system, software] = bytes else {
         return Err(length_fault(bytes));
     };
-    let Ok(unit) = Unit::try_from(*system) else {
-        return Err(MessageFault::Malformed { at: 2 });
-    };
-    let Ok(software) = Software::try_from(*software) else {
-        return Err(MessageFault::Malformed { at: 3 });
-    };
+    let unit = unit_in(*system)?;
+    let software = software_in(*software)?;
     Ok(Reply::SystemType { unit, software })
 }
 
@@ -154,16 +160,16 @@ fn read_functions(bytes: &[u8]) -> Result<Reply<'_>, MessageFault>
     if bytes.len() != 20 {
         return Err(length_fault(bytes));
     }
-    if bytes[0] != 130 {
+    if bytes[0] != u8::from(Function::F130) {
         return Err(MessageFault::Malformed { at: 2 });
     }
-    if bytes[1] > 12 {
+    if bytes[1] > Function::F130.limit() {
         return Err(MessageFault::Malformed { at: 3 });
     }
-    if bytes[2] != 82 {
+    if bytes[2] != u8::from(Function::F82) {
         return Err(MessageFault::Malformed { at: 4 });
     }
-    if bytes[3] > 1 {
+    if bytes[3] > Function::F82.limit() {
         return Err(MessageFault::Malformed { at: 5 });
     }
     Ok(Reply::Functions {

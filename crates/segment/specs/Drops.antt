@@ -1,5 +1,5 @@
 -- A drop: what the machines on a cable, from left to right, do with a batch and with a burst.
-use Rattle.std.specs.Prelude.{ℕ, cond, List, [], ◌∷◌, map, Some, None, Err, Option, Result, ◌==◌}
+use Rattle.std.specs.Prelude.{ℕ, cond, List, [], ◌∷◌, map, filter_map, Some, None, Err, Option, Result, ◌==◌}
 use Rattle.terms.specs.Addresses.{is_address}
 use Rattle.terms.specs.declared.Refusal.{Refusal}
 use Rattle.terms.specs.declared.Refusal.TheVariants.{NoAddress, NoMachine}
@@ -31,14 +31,9 @@ drop_batched a amounts ms = if_accepted (drop_answer a amounts ms) (leftmost_fil
 abbrev pub shown : List ℕ → List Model → List Model
 shown b ms = map (λ m. after m b) ms
 
-abbrev pub with_reply : Option (List ℕ) → List (List ℕ) → List (List ℕ)
-with_reply None rs = rs
-with_reply (Some r) rs = r ∷ rs
-
 -- what the machines reply, from left to right
 abbrev pub replies : List ℕ → List Model → List (List ℕ)
-replies b [] = []
-replies b (m ∷ ms) = with_reply (reply m b) (replies b ms)
+replies b ms = filter_map (λ m. reply m b) ms
 
 abbrev pub only : List (List ℕ) → Option (List ℕ)
 only [] = None

@@ -8,6 +8,11 @@ said_of [] = Nothing
 said_of (r ∷ []) = Reply r
 said_of (r ∷ s ∷ rs) = Clash
 
+-- what one machine says, which replies or does not
+abbrev pub said_once : Option (List ℕ) → Said
+said_once None = Nothing
+said_once (Some r) = Reply r
+
 abbrev pub joined_said : Said → Said → Said
 joined_said s Nothing = s
 joined_said Nothing (Reply r) = Reply r

@@ -1,7 +1,7 @@
 ghost use Rattle.std.specs.Prelude.{◌≡◌, List, [], ◌∷◌};
 ghost use Rattle.blender.specs.Machines.{Model, model};
 ghost use Rattle.segment.specs.Drops.{drop_answer, drop_batched, replies, shown};
-ghost use Rattle.segment.specs.Saying.{said_of, joined_said, reply_said};
+ghost use Rattle.segment.specs.Saying.{said_of, said_once, joined_said, reply_said};
 
 use blender::machine::Machine;
 use kinds::Kind;
@@ -15,6 +15,18 @@ pub enum Said {
     Nothing,
     Reply(Burst),
     Clash,
+}
+
+// What one machine said.
+impl From<Option<Burst>> for Said {
+    ghost from_gives = { λ reply said. said ≡ said_once reply };
+
+    fn from(reply: Option<Burst>) -> Said {
+        match reply {
+            None => Said::Nothing,
+            Some(reply) => Said::Reply(reply),
+        }
+    }
 }
 
 impl Said {
@@ -64,6 +76,6 @@ impl<K: Kind> Segment for Machine<K> {
     }
 
     fn show(&mut self, burst: &[u8]) -> Said {
-        self.answer(burst).map_or(Said::Nothing, Said::Reply)
+        self.answer(burst).into()
     }
 }

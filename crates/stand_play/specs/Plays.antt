@@ -7,6 +7,7 @@ use Rattle.terms.specs.declared.Refusal.TheVariants.{NoAddress, NoMachine}
 use Rattle.blender.specs.Batches.{batch_answer, batched}
 use Rattle.blender.specs.Machines.{Model, new_model, reply, after}
 use Rattle.rack.specs.Racks.{any_model, facts_of}
+use Rattle.wording.specs.declared.plate.Plate.{Plate}
 use Rattle.stand_script.specs.Lines.{Line, nothing, machine, batch, burst, unknown}
 use Rattle.stand_text.specs.declared.Event.{Event}
 use Rattle.stand_text.specs.declared.Event.TheVariants.{Hung, Batch, Reply, NotUnderstood}
@@ -15,6 +16,10 @@ use Rattle.stand_play.specs.declared.Stand.{Stand}
 -- the machine on the stand
 abbrev pub hung : Stand → Option Model
 hung s = option_map any_model s.machine
+
+-- a plate whose address is one is hung
+abbrev pub hang_result : Plate → Result Plate Refusal
+hang_result p = cond (is_address p.address) (Ok p) (Err NoAddress)
 
 abbrev pub played : Line → Option Model → Option Model
 played nothing s = s
@@ -40,7 +45,7 @@ shown_event bytes (Some m) = Reply (reply m bytes)
 -- what is told of the line with number n, if anything
 abbrev pub told : ℕ → Line → Option Model → Option Event
 told n nothing s = None
-told n (machine p) None = Some (Hung (cond (is_address p.address) (Ok p) (Err NoAddress)))
+told n (machine p) None = Some (Hung (hang_result p))
 told n (machine p) (Some m) = Some (NotUnderstood n)
 told n (batch a amounts) s = Some (batch_event a amounts s)
 told n (burst bytes) s = Some (shown_event bytes s)

@@ -1,12 +1,12 @@
 // The test stand: plays the lines of its script.
 #![tactic(auto)]
 
-ghost use Rattle.std.specs.Prelude.{◌≡◌, Some, None, MatchResult};
+ghost use Rattle.std.specs.Prelude.{◌≡◌, Some, None, IfOk, MatchResult};
 ghost use Rattle.std.specs.Option.{option_map};
 ghost use Rattle.blender.specs.Batches.{batched};
 ghost use Rattle.blender.specs.Machines.{after};
 ghost use Rattle.stand_script.specs.Lines.{machine, asked};
-ghost use Rattle.stand_play.specs.Plays.{hung, played, batch_event, shown_event, told};
+ghost use Rattle.stand_play.specs.Plays.{hung, hang_result, played, batch_event, shown_event, told};
 
 use rack::AnyMachine;
 use script::LineFault;
@@ -45,7 +45,11 @@ impl Stand {
     {
         match read(heap, line) {
             Ok(None) => Ok(None),
-            Ok(Some(Action::Hang(plate))) => Ok(Some(self.hang(plate, number))),
+            // there is room for one machine
+            Ok(Some(Action::Hang(_))) if self.machine.is_some() => {
+                Ok(Some(Event::NotUnderstood { line: number }))
+            }
+            Ok(Some(Action::Hang(plate))) => Ok(Some(Event::Hung(self.hang(plate)))),
             Ok(Some(Action::Run { address, amounts })) => Ok(Some(self.run(address, &amounts))),
             Ok(Some(Action::Show { bytes })) => Ok(Some(self.show(&bytes))),
             Err(LineFault::NotUnderstood) => Ok(Some(Event::NotUnderstood { line: number })),
@@ -53,21 +57,13 @@ impl Stand {
         }
     }
 
-    // There is room for one machine.
-    fn hang(&mut self, plate: Plate, number: u64) -> Event
-        ensures event { Some result ≡ told number (machine plate) (hung self.old) }
-        ensures stand { hung self.new ≡ played (machine plate) (hung self.old) }
+    fn hang(&mut self, plate: Plate) -> Result<Plate, Refusal>
+        ensures answer { result ≡ hang_result plate }
+        ensures stand { hung self.old ≡ None → hung self.new ≡ played (machine plate) None }
     {
-        if self.machine.is_some() {
-            return Event::NotUnderstood { line: number };
-        }
-        match Address::new(plate.address) {
-            Ok(at) => {
-                self.machine = Some(AnyMachine::new(plate.kind, at, plate.unit));
-                Event::Hung(Ok(plate))
-            }
-            Err(refusal) => Event::Hung(Err(refusal)),
-        }
+        let at = Address::new(plate.address)?;
+        self.machine = Some(AnyMachine::new(plate.kind, at, plate.unit));
+        Ok(plate)
     }
 
     fn run(&mut self, address: u8, amounts: &[u32]) -> Event
@@ -90,4 +86,17 @@ impl Stand {
             None => None,
         })
     }
+}
+
+// Plays one line, and prints what came of it.
+pub fn tell(rt: &HostRuntime, stand: &mut Stand, line: &[u8], number: u64) -> anyhow::Result<()>
+    ensures { IfOk result (λ _. hung stand.new ≡ played (asked line.now) (hung stand.old)) }
+{
+    // a match and no `?`, which gets no proof yet where the value may hold a `Burst`
+    match stand.play(rt.alloc(), line, number) {
+        Ok(Some(event)) => println!(rt; "{event}")?,
+        Ok(None) => {}
+        Err(fault) => return Err(fault.into()),
+    }
+    Ok(())
 }

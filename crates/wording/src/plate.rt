@@ -24,6 +24,7 @@ impl Plate {
         ensures shorter { OnSome result (length line.new < length line.old) }
         ensures kept { IfNone result (line.new ≡ line.old) }
     {
+        // a copy, as `clone` would make it with a `Result`
         let mut ahead = Words::of(line.rest());
         let address = ahead.next()?;
         let kind = ahead.next()?;

@@ -1,5 +1,5 @@
 -- Reading a command that was written gives back what was meant.
-use Rattle.std.proofs.Common.{◌≡◌, ℕ, ◌+◌, ◌-◌, ◌%◌, ◌≤◌, Bool, true, false, cond, eqb, leb, List, [], ◌∷◌, ◌++◌, length, get_or, take, is_ok, None, Ok, Err, sum, refl, ap, ◌∙◌, arith, length-append}
+use Rattle.std.proofs.Common.{◌≡◌, ℕ, ◌+◌, ◌-◌, ◌%◌, ◌≤◌, true, eqb, leb, List, [], ◌∷◌, ◌++◌, length, get_or, take, None, sum, refl, ap, ◌∙◌, arith, length-append}
 use Rattle.std.proofs.lemmas.List.{take_at}
 use Rattle.std.proofs.lemmas.List.Elements.{All-get_or}
 use Rattle.std.proofs.lemmas.List.Sums.{sum_by-append, AllPass-from_list_all}
@@ -11,8 +11,6 @@ use Rattle.terms.specs.declared.Row.{Row}
 use Rattle.terms.specs.declared.Sheet.{Sheet}
 use Rattle.terms.specs.declared.Tag.{Tag}
 use Rattle.terms.specs.declared.Tag.TheVariants.{Recipe, WorkOrder, Operator}
-use Rattle.terms.specs.declared.TagFault.{TagFault}
-use Rattle.terms.specs.declared.TagFault.TheVariants.{Value}
 use Rattle.terms.specs.declared.WeightUnits.TheVariants.{Pounds}
 use Rattle.mlan.specs.Checksum.{checksum, sealed, is_sound}
 use Rattle.mlan.specs.Commands.{set_function, reads, as_settings, as_function, as_tag, data_as, read_as}
@@ -23,6 +21,7 @@ use Rattle.mlan.specs.Rows.{rows_bytes, rows_fault, greatest_type, greatest_sett
 use Rattle.writing.specs.Sheets.{sheet_bytes}
 use Rattle.writing.specs.declared.request.Request.{Request}
 use Rattle.writing.specs.declared.request.Request.TheVariants.{GetTotals, SetSettings, SetFunction, SetUnits, SetKeypad, SetTag}
+use Rattle.mlan.proofs.Codes.{limited}
 use Rattle.mlan.proofs.Numerals.{two_back, four_back}
 use Rattle.mlan.proofs.RowsBack.{length_rows, no_rows_fault, same_rows}
 use Rattle.mlan.proofs.Readings.{same_said}
@@ -48,18 +47,10 @@ function_back : (f : Function) (v : ℕ) → in_range (SetFunction f v) ≡ true
 function_back F82 v e = let h = leb-true v 1 e in rw (two_back v (omega arith), e) refl
 function_back F130 v e = let h = leb-true v 12 e in rw (two_back v (omega arith), e) refl
 
--- a tag is in range if its value is
-limited : (limit v : ℕ) (tag : Tag) → is_ok {T = Tag} {E = TagFault} (cond (leb v limit) (Ok tag) (Err Value)) ≡ true → v ≤ limit
-limited limit v tag e = leb-true v limit (go (leb v limit) e)
-  where
-    go : (b : Bool) → is_ok {T = Tag} {E = TagFault} (cond b (Ok tag) (Err Value)) ≡ true → b ≡ true
-    go true e = refl
-    go false e = e
-
 tag_back : (t : Tag) → tag_in_range t ≡ true → as_tag (request_data (SetTag t)) ≡ reads (meant (SetTag t))
-tag_back (Recipe v) e = let h = limited 65535 v (Recipe v) e in rw (four_back v (omega arith), le-leb v 65535 h) refl
-tag_back (WorkOrder v) e = let h = limited 999999 v (WorkOrder v) e in rw (four_back v (omega arith), le-leb v 999999 h) refl
-tag_back (Operator v) e = let h = limited 999 v (Operator v) e in rw (four_back v (omega arith), le-leb v 999 h) refl
+tag_back (Recipe v) e = let h = (limited 65535 v (Recipe v) e).0 in rw (four_back v (omega arith), le-leb v 65535 h) refl
+tag_back (WorkOrder v) e = let h = (limited 999999 v (WorkOrder v) e).0 in rw (four_back v (omega arith), le-leb v 999999 h) refl
+tag_back (Operator v) e = let h = (limited 999 v (Operator v) e).0 in rw (four_back v (omega arith), le-leb v 999 h) refl
 
 -- rows in range are a Twelve's
 rows_pass : (rows : List Row) → length rows ≡ 12 → rows_in_range rows ≡ true → RowsPass twelve_facts rows
@@ -80,9 +71,9 @@ settings_back s twelve e =
     let w = and_parts (rows_in_range s.rows) _ e in
     let v = and_parts (tag_in_range (Recipe s.recipe)) _ w.1 in
     let u = and_parts (tag_in_range (Operator s.operator)) _ v.1 in
-    let r = limited 65535 s.recipe (Recipe s.recipe) v.0 in
-    let o = limited 999 s.operator (Operator s.operator) u.0 in
-    let q = limited 999999 s.order (WorkOrder s.order) u.1 in
+    let r = (limited 65535 s.recipe (Recipe s.recipe) v.0).0 in
+    let o = (limited 999 s.operator (Operator s.operator) u.0).0 in
+    let q = (limited 999999 s.order (WorkOrder s.order) u.1).0 in
     let all : eqb (length (front ++ tail)) 44 ≡ true = eq-eqb _ 44 (length-append front tail ∙ ap (λ n. n + 8) long) in
     let rows : take 36 (front ++ tail) ≡ front = take_at front tail 36 long in
     let clear : rows_fault twelve_facts (record { at = 2; bytes = front }) ≡ None = no_rows_fault s.rows 2 (omega arith) twelve_facts (rows_pass s.rows twelve w.0) in

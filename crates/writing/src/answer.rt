@@ -3,7 +3,7 @@ ghost use Rattle.writing.specs.Answers.{answer_code, answer_data, answer_bytes};
 
 use super::draft::Draft;
 use mlan::burst::Burst;
-use terms::{Counts, Row, Sheet, Unit, WeightUnits};
+use terms::{Counts, Function, Row, Sheet, Unit, WeightUnits};
 
 // What a machine replies to a command. Its software type is a number: an enum would ask more
 // of who writes an answer. So unit and software are no struct either, which a `Reply`, with
@@ -31,6 +31,7 @@ pub enum Answer {
         unit: Unit,
         software: u8,
     },
+    // two bytes, as in a machine's settings, where each is set by itself
     Functions {
         f130: u8,
         f82: u8,
@@ -99,7 +100,12 @@ impl Answer {
             }
             Answer::SystemType { unit, software } => draft.append(&[unit.system(false), *software]),
             Answer::Functions { f130, f82 } => {
-                draft.append(&[130, *f130, 82, *f82]);
+                draft.append(&[
+                    u8::from(Function::F130),
+                    *f130,
+                    u8::from(Function::F82),
+                    *f82,
+                ]);
                 draft.append(&[0; 16]);
             }
             Answer::Version { characters } => draft.append(characters),

@@ -47,6 +47,7 @@ impl Draft {
     }
 
     // One field behind the other.
+    // The length is said beside the bytes, for the room of what follows.
     pub(crate) fn put_all<T: Field + Copy>(&mut self, fields: &[T])
         requires { length self.old + T.size * length fields.now ≤ 64 }
         ensures written { self.new ≡ self.old ++ flat_map T.bytes fields.now }

@@ -6,8 +6,8 @@ use super::draft::Draft;
 use mlan::burst::Burst;
 use terms::{Function, Refusal, Row, Sheet, Tag, WeightUnits};
 
-// What a station asks of a machine. A `Command` is not this type at other rows, since it also
-// holds the letters of a tag as they were read.
+// What a station asks of a machine. A `Command` is not this type at other rows, since by the
+// rules of reading it also holds the letters of a tag, as a part of the burst.
 #[derive(Clone, Copy, Debug, PartialEq, Eq)]
 pub enum Request {
     // `reset` is code 16, which lowers the mark and the flags; code 17 only reads.
