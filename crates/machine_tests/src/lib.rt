@@ -11,6 +11,7 @@ mod tests {
     use terms::address::Address;
 
     // A new machine at address 5.
+    // as in the tests of cables, with which this crate shares no library of tests
     fn machine<K: Kind + Drop>(unit: Unit, kind: K) -> Result<Machine<K>, Fail> {
         let address = Address::new(5).map_err(|_| Fail::new("5 is an address"))?;
         Ok(Machine::new(address, unit, kind))

@@ -89,7 +89,8 @@ impl Segment for Rack {
     fn show(&mut self, burst: &[u8]) -> Said {
         let mut said = Said::Nothing;
         for machine in self.machines.iter_mut() {
-            said = said.and(machine.show(burst));
+            let next = machine.show(burst);
+            said = said.and(next);
         }
         said
     }

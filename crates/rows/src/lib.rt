@@ -33,7 +33,7 @@ pub fn row_part<'a>(rows: Part<'a>, row: usize) -> Option<Part<'a>>
     }
 }
 
-// This and the next are two lines each, of two types.
+// It and the greatest setting stay apart: two lines each, of two types.
 fn greatest_type<K: Kind>(row: usize) -> u8
     ensures { result ≡ greatest_type K.Kind.facts row }
 {
@@ -76,13 +76,7 @@ fn row_fault<K: Kind>(rows: Part<'_>, row: usize) -> Option<usize>
 pub fn rows_fault<K: Kind>(rows: Part<'_>) -> Option<usize>
     ensures { result ≡ rows_fault K.Kind.facts (piece rows.entry) }
 {
-    // a loop, since a first try by `find_map` left its proof open
-    for row in 1..13 {
-        if let Some(byte) = row_fault::<K>(rows, row) {
-            return Some(byte);
-        }
-    }
-    None
+    (1..13).find_map(|row| row_fault::<K>(rows, row))
 }
 
 // The row that three bytes say; zero where there are none.

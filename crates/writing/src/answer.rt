@@ -60,7 +60,8 @@ impl Answer {
         }
     }
 
-    // The burst of the reply of the machine with this address.
+    // The burst of the reply of the machine with this address. A request makes its own by the
+    // same four lines; a trait of what has a code and data would be longer than both.
     pub fn burst(&self, address: u8) -> Burst
         ensures { result ≡ answer_bytes address self.now }
     {
@@ -70,6 +71,7 @@ impl Answer {
         draft.seal()
     }
 
+    // Its length is said beside its bytes, for the room of the checksum.
     fn put_data(&self, draft: &mut Draft)
         requires { length draft.old ≤ 2 }
         ensures written { draft.new ≡ draft.old ++ answer_data self.now }

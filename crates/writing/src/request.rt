@@ -79,6 +79,7 @@ impl Request {
         }
     }
 
+    // Its length is said beside its bytes, for the room of the checksum.
     fn put_data(&self, draft: &mut Draft)
         requires { length draft.old ≤ 2 }
         ensures written { draft.new ≡ draft.old ++ request_data self.now }
