@@ -1,7 +1,6 @@
 -- A machine: what it is, what it replies to a burst, and what it is afterwards.
 use Rattle.std.specs.Prelude.{ℕ, Bool, false, cond, ◌||◌, List, [], ◌∷◌, replicate, Some, None, Option, ◌==◌}
 use Rattle.kinds.specs.Kinds.{KindFacts}
-use Rattle.terms.specs.Addresses.{number}
 use Rattle.terms.specs.declared.Function.{Function}
 use Rattle.terms.specs.declared.Function.TheVariants.{F82, F130}
 use Rattle.terms.specs.declared.Row.{Row}
@@ -30,11 +29,11 @@ pub record Model : Type 0 where
   pub mark : Bool
   pub settings : Settings
 
-abbrev pub model : {K : Type 0} {g : _} → KindFacts → Machine K g → Model
+abbrev pub model : {K : Type 0} → KindFacts → Machine K → Model
 model k m =
     record {
       kind = k;
-      address = number m.address;
+      address = m.address;
       unit = m.unit;
       totals = m.counts.totals;
       cycles = m.counts.cycles;

@@ -1,21 +1,19 @@
-ghost use Rattle.std.specs.Prelude.{◌≡◌, length};
-
 use super::settings::Settings;
 use kinds::Kind;
-use terms::address::Address;
 use terms::{Counts, Unit};
 
-// A machine of a kind, at an address.
+// A machine of a kind, at an address. It has no ghost field, and none in its fields, since a
+// caller could not match such a machine through `&mut` inside an enum.
 #[derive(Drop)]
 pub struct Machine<K: Kind> {
-    address: Address,
+    // the number of an `Address`
+    address: u8,
     unit: Unit,
     counts: Counts,
     // the change mark: up since a batch, until code 16 has read the totals
     mark: bool,
     settings: Settings,
     kind: K,
-    ghost twelve: { length counts.totals ≡ 12 },
 }
 
 mod working;

@@ -40,7 +40,7 @@ module _ (rule : List ℕ → List (List ℕ) → List (List ℕ)) (adds : (b : 
 abbrev pub Bursts : List (List ℕ) → Type 0
 Bursts pool = (b : List ℕ) → Some b ≡ first pool → is_burst b ≡ true
 
-gives_burst : (rule : List ℕ → List (List ℕ) → List (List ℕ)) (m : Motion) (w : Way) (s t : Way → List (List ℕ)) → Bursts (s w) → Exact rule w m s t → GivesBurst m
+pub gives_burst : (rule : List ℕ → List (List ℕ) → List (List ℕ)) (m : Motion) (w : Way) (s t : Way → List (List ℕ)) → Bursts (s w) → Exact rule w m s t → GivesBurst m
 gives_burst rule (puts b) w s t all e = tt
 gives_burst rule (takes None) w s t all e = tt
 gives_burst rule (takes (Some b)) w s t all e = all b e.0
@@ -67,3 +67,7 @@ pair_lawful s w m t all e = lawful newest newest_adds m w (pair_pool s) (pair_po
 pub carrier_lawful : (s : TwoWay (List (List ℕ))) (w : Way) (m : Motion) (t : TwoWay (List (List ℕ))) → Bursts (carrier_pool s w) → Exact lined w m (carrier_pool s) (carrier_pool t)
     → Lawful m (carrier_pool s w) (carrier_pool s (other w)) (carrier_pool t w) (carrier_pool t (other w))
 carrier_lawful s w m t all e = lawful up_to_eight up_to_eight_adds m w (carrier_pool s) (carrier_pool t) (gives_burst lined m w (carrier_pool s) (carrier_pool t) all e) e
+
+-- what a line does by its rule of putting, from what it holds, is what a line may do, on each way
+abbrev pub KeepsLaw : {S : Type 0} → (List ℕ → List (List ℕ) → List (List ℕ)) → (TwoWay S → Way → List (List ℕ)) → TwoWay S → Type 0
+KeepsLaw {S} rule pool s = (w : Way) (m : Motion) (t : TwoWay S) → Exact rule w m (pool s) (pool t) → Lawful m (pool s w) (pool s (other w)) (pool t w) (pool t (other w))

@@ -1,7 +1,7 @@
 ghost use Rattle.std.specs.Prelude.{◌≡◌, true, [], Some};
 ghost use Rattle.mlan.specs.Bursts.{is_burst};
-ghost use Rattle.cable.specs.Pools.{given, Stays};
-ghost use Rattle.cable.specs.Held.{lined, Carries};
+ghost use Rattle.cable.specs.Pools.{takes, given, Stays};
+ghost use Rattle.cable.specs.Held.{lined, GivesBurst, Carries};
 ghost use Rattle.cable.specs.TwoWay.{carrier_pool};
 
 use super::Way;
@@ -22,6 +22,7 @@ pub fn carrier_carries(
 ) -> Option<usize>
     ensures carries { Carries lined way burst.now (carrier_pool carrier.old) (given result into.new) (carrier_pool carrier.new) }
     ensures burst { is_burst burst.now ≡ true → carrier_pool carrier.old way ≡ [] → given result into.new ≡ Some burst.now }
+    ensures whole { GivesBurst (takes (given result into.new)) }
     ensures rest { Stays result into.old into.new }
 {
     carries(carrier, way, burst, into)

@@ -1,7 +1,7 @@
 ghost use Rattle.std.specs.Prelude.{◌≡◌, true, Some};
 ghost use Rattle.mlan.specs.Bursts.{is_burst};
-ghost use Rattle.cable.specs.Pools.{given, Stays};
-ghost use Rattle.cable.specs.Held.{slot_pool, newest, replaced, Carries};
+ghost use Rattle.cable.specs.Pools.{takes, given, Stays};
+ghost use Rattle.cable.specs.Held.{slot_pool, newest, replaced, GivesBurst, Carries};
 ghost use Rattle.cable.specs.TwoWay.{pair_pool};
 ghost use Rattle.cable.specs.Rules.{newest_adds};
 
@@ -38,6 +38,7 @@ impl Store for Option<Burst> {
 pub fn pair_carries(pair: &mut Pair, way: Way, burst: &[u8], into: &mut [u8; 64]) -> Option<usize>
     ensures carries { Carries replaced way burst.now (pair_pool pair.old) (given result into.new) (pair_pool pair.new) }
     ensures burst { is_burst burst.now ≡ true → given result into.new ≡ Some burst.now }
+    ensures whole { GivesBurst (takes (given result into.new)) }
     ensures rest { Stays result into.old into.new }
 {
     carries(pair, way, burst, into)

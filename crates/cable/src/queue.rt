@@ -59,6 +59,10 @@ impl Store for Queue {
     }
 
     fn take(&mut self) -> Option<Burst> {
+        // an empty queue moves nothing
+        if self.slots[0].is_none() {
+            return None;
+        }
         let oldest = self.slots[0].take();
         self.slots.rotate_left(1);
         oldest

@@ -1,9 +1,9 @@
 ghost use Rattle.std.specs.Prelude.{◌≡◌, []};
 ghost use Rattle.cable.specs.declared.Way.TheVariants.{Down, Up};
-ghost use Rattle.cable.specs.Pools.{given, Stays};
+ghost use Rattle.cable.specs.Pools.{takes, given, Stays};
 ghost use Rattle.cable.specs.Held.{put_by, Exact, GivesBurst, Carries};
 ghost use Rattle.cable.specs.TwoWay.{pools};
-ghost use Rattle.cable.specs.Rules.{lawful as by_rule};
+ghost use Rattle.cable.specs.Rules.{lawful as by_rule, Bursts, KeepsLaw};
 
 use super::Way;
 use super::line::Line;
@@ -64,8 +64,28 @@ pub fn carries<S: Store>(
     into: &mut [u8; 64],
 ) -> Option<usize>
     ensures carries { Carries (put_by S.rule) way burst.now (pools S.held line.old) (given result into.new) (pools S.held line.new) }
+    ensures whole { GivesBurst (takes (given result into.new)) }
     ensures rest { Stays result into.old into.new }
 {
     line.put(way, burst);
     line.take(way, into)
+}
+
+// What such a line holds to be taken next, if anything, is a burst, since nothing else is put. It
+// takes from a copy, and so leaves the line as it is.
+pub fn holds_bursts<S: Store + Copy>(line: &TwoWay<S>, way: Way)
+    ensures { Bursts (pools S.held line.now way) }
+{
+    let mut copy = *line;
+    let mut lent = [0; 64];
+    let _ = copy.take(way, &mut lent);
+}
+
+// Whatever a pair, a carrier or another such line holds, what it does by its rule is what a line
+// may do.
+pub fn keeps_law<S: Store + Copy>(line: &TwoWay<S>)
+    ensures { KeepsLaw (put_by S.rule) (pools S.held) line.now }
+{
+    holds_bursts(line, Way::Down);
+    holds_bursts(line, Way::Up);
 }

@@ -2,6 +2,7 @@ ghost use Rattle.std.specs.Prelude.{◌≡◌, ◌≤◌, length, take, drop, if
 ghost use Rattle.mlan.specs.Bursts.{is_burst};
 ghost use Rattle.mlan.specs.Checksum.{padded};
 
+use std::convert::AsSlice;
 use std::marker::Model;
 
 // A burst that is kept: 1 to 64 bytes that arrive together. In a contract it is the list of
@@ -73,5 +74,14 @@ impl Burst {
         let len = self.len;
         into[..len].copy_from_slice(self.as_slice());
         len
+    }
+}
+
+// A burst is lent as the slice of its bytes wherever one is asked for.
+impl AsSlice<u8> for Burst {
+    ghost items = { λ b. b };
+
+    fn as_slice(&self) -> &[u8] {
+        Burst::as_slice(self)
     }
 }

@@ -1,22 +1,37 @@
 -- A rack's machines, one after the other.
-use Rattle.std.proofs.Common.{◌≡◌, ℕ, suc, ◌+◌, ◌<◌, ◌≤◌, Bool, true, false, cond, not, eqb, List, [], ◌∷◌, ◌++◌, map, length, get_or, take, drop, set, position, Some, None, Err, sym, refl, subst, ap, ◌∙◌, add-one, arith, drop-cons, drop-set-lt}
+use Rattle.std.proofs.Common.{◌≡◌, ℕ, suc, ◌+◌, ◌<◌, ◌≤◌, Bool, true, false, cond, not, eqb, List, [], ◌∷◌, ◌++◌, map, length, get_or, take, drop, set, position, Some, None, Err, Option, IfSome, sym, refl, subst, ap, ◌∙◌, add-one, arith, drop-cons, drop-set-lt}
 use Rattle.std.proofs.lemmas.List.{map-append}
 use Rattle.std.proofs.lemmas.Grind.{common_steps}
 use Rattle.std.proofs.lemmas.List.Elements.{filter_map-append}
-use Rattle.std.specs.List.{position_or_len}
+use Rattle.std.specs.List.{position_or_len, cons_option}
 use Rattle.std.proofs.lemmas.List.{take_more, take_more_set}
 use Rattle.terms.specs.Addresses.{is_address}
 use Rattle.terms.specs.declared.Refusal.TheVariants.{NoAddress, NoMachine}
 use Rattle.blender.specs.Machines.{Model, reply, after}
 use Rattle.blender.specs.Batches.{if_accepted}
 use Rattle.segment.specs.Drops.{leftmost, machine_answer, drop_answer, leftmost_filled, drop_batched, replies, shown}
-use Rattle.segment.specs.Saying.{said_of, joined_said}
+use Rattle.segment.specs.Saying.{said_of, said_once, Fits, joined_said}
 use Rattle.segment.specs.declared.segment.Said.{Said}
 use Rattle.segment.proofs.Joins.{none_there, batch_left, batch_right}
-use Rattle.segment.proofs.Says.{joins_said}
+use Rattle.segment.proofs.Says.{joins_said, joins_fit}
 use Rattle.rack.specs.Racks.{any_model, even_batched}
 use Rattle.rack.specs.Hanging.{has_address}
 use Rattle.rack.specs.declared.AnyMachine.{AnyMachine}
+use Rattle.rack.specs.declared.AnyMachine.TheVariants.{OfFour}
+use Rattle.terms.specs.declared.Unit.TheVariants.{Tenths}
+use Rattle.terms.specs.declared.WeightUnits.TheVariants.{Pounds}
+
+-- what stands for a machine past the end of a list
+abbrev pub blank : AnyMachine
+blank =
+    OfFour (record {
+      address = 0;
+      unit = Tenths;
+      counts = record { totals = []; cycles = 0; flags = 0 };
+      mark = false;
+      settings = record { sheet = record { rows = []; recipe = 0; operator = 0; order = 0 }; f82 = 0; f130 = 0; units = Pounds; keypad = false };
+      kind = record {};
+    })
 
 abbrev pub models : List AnyMachine → List Model
 models xs = map any_model xs
@@ -84,9 +99,17 @@ module _ (a : ℕ) (ns : List ℕ) (good : is_address a ≡ true) where
       let within : place xs < length xs = grind (arith, common_steps) in
       subst (λ n. SameAt n v xs (set xs i v)) (sym here) (subst (λ n. SameAt (get_or xs n m) v xs (set xs n v)) at (at_place m v xs within))
 
+says_once : (o : Option (List ℕ)) → said_once o ≡ said_of (cons_option o [])
+says_once None = refl
+says_once (Some r) = refl
+
+pub fits_once : (o : Option (List ℕ)) → IfSome o (λ r. (1 ≤ length r) × (length r ≤ 64)) → Fits (said_once o)
+fits_once None f = tt
+fits_once (Some r) f = f
+
 -- a burst: what the machines so far have said and become
-abbrev pub Shown : List ℕ → List AnyMachine → List AnyMachine → ℕ → Said → Type 0
-Shown b old xs i said = (drop i xs ≡ drop i old) × (models (take i xs) ≡ shown b (models (take i old))) × (said ≡ said_of (replies b (models (take i old))))
+abbrev pub Shown : List ℕ → List AnyMachine → List AnyMachine → ℕ → Said (List ℕ) → Type 0
+Shown b old xs i said = (drop i xs ≡ drop i old) × (models (take i xs) ≡ shown b (models (take i old))) × (said ≡ said_of (replies b (models (take i old)))) × Fits said
 
 module _ (b : List ℕ) (old xs : List AnyMachine) (i : ℕ) (d : AnyMachine) (within : i < length xs) (within-old : i < length old) where
   abbrev m : Model
@@ -97,20 +120,22 @@ module _ (b : List ℕ) (old xs : List AnyMachine) (i : ℕ) (d : AnyMachine) (w
       let p : get_or xs i d ∷ drop (i + 1) xs ≡ get_or old i d ∷ drop (i + 1) old = sym (rw (add-one, drop-cons xs i d)) ∙ e ∙ rw (add-one, drop-cons old i d) in
       (cc, cc)
 
-  pub show_more : (v : AnyMachine) (said next joined : Said) → Shown b old xs i said
-      → any_model v ∷ [] ≡ shown b (any_model (get_or xs i d) ∷ []) → next ≡ said_of (replies b (any_model (get_or xs i d) ∷ [])) → joined ≡ joined_said said next → Shown b old (set xs i v) (i + 1) joined
-  show_more v said next joined inv becomes says is-joined =
+  -- a machine shown: it has become what it should, and said what it replies, if anything
+  pub show_more : (v : AnyMachine) (said : Said (List ℕ)) (o : Option (List ℕ)) → Shown b old xs i said
+      → any_model v ≡ after (any_model (get_or xs i d)) b → o ≡ reply (any_model (get_or xs i d)) b → Fits (said_once o) → Shown b old (set xs i v) (i + 1) (joined_said said (said_once o))
+  show_more v said o inv becomes says fits =
       let same = same_here inv.0 in
       let past = models (take i old) in
       let grown = one_more old i d within-old in
       let heard : replies b (models (take (i + 1) old)) ≡ replies b past ++ replies b (m ∷ []) = ap (replies b) grown ∙ filter_map-append (λ n. reply n b) past (m ∷ []) in
       let seen : shown b (models (take (i + 1) old)) ≡ shown b past ++ shown b (m ∷ []) = ap (shown b) grown ∙ map-append (λ n. after n b) past (m ∷ []) in
       let put : models (take (i + 1) (set xs i v)) ≡ models (take i xs) ++ any_model v ∷ [] = ap models (take_more_set xs i v within) ∙ map-append any_model (take i xs) (v ∷ []) in
-      let new : any_model v ∷ [] ≡ shown b (m ∷ []) = becomes ∙ ap (λ (x : AnyMachine). shown b (any_model x ∷ [])) same.0 in
-      let word : next ≡ said_of (replies b (m ∷ [])) = says ∙ ap (λ (x : AnyMachine). said_of (replies b (any_model x ∷ []))) same.0 in (
+      let new : any_model v ∷ [] ≡ shown b (m ∷ []) = ap (λ (n : Model). n ∷ []) becomes ∙ ap (λ (x : AnyMachine). shown b (any_model x ∷ [])) same.0 in
+      let word : said_once o ≡ said_of (replies b (m ∷ [])) = ap said_once says ∙ says_once (reply (any_model (get_or xs i d)) b) ∙ ap (λ (x : AnyMachine). said_of (replies b (any_model x ∷ []))) same.0 in (
         drop-set-lt (i + 1) xs i v (omega arith) ∙ same.1,
         put ∙ ap (λ (l : List Model). l ++ any_model v ∷ []) inv.1 ∙ ap (λ (l : List Model). shown b past ++ l) new ∙ sym seen,
-        is-joined ∙ ap (λ (s : Said). joined_said s next) inv.2 ∙ ap (joined_said (said_of (replies b past))) word ∙ joins_said (replies b past) (replies b (m ∷ [])) ∙ ap said_of (sym heard),
+        ap (λ (s : Said (List ℕ)). joined_said s (said_once o)) inv.2 ∙ ap (joined_said (said_of (replies b past))) word ∙ joins_said (replies b past) (replies b (m ∷ [])) ∙ ap said_of (sym heard),
+        joins_fit said (said_once o) inv.3 fits,
       )
 
 -- an even batch for each machine

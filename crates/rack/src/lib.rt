@@ -1,7 +1,7 @@
 // Machines whose kind is chosen while a program runs.
 #![tactic(auto)]
 
-ghost use Rattle.std.specs.Prelude.{◌≡◌, [], ◌∷◌};
+ghost use Rattle.std.specs.Prelude.{◌≡◌, ◌≤◌, [], ◌∷◌, length, IfSome};
 ghost use Rattle.terms.specs.Addresses.{number};
 ghost use Rattle.blender.specs.Batches.{batch_answer, batched};
 ghost use Rattle.blender.specs.Machines.{new_model, reply, after};
@@ -38,6 +38,7 @@ impl AnyMachine {
     // As `Machine::answer`.
     pub fn answer(&mut self, burst: &[u8]) -> Option<Burst>
         ensures reply { result ≡ reply (any_model self.old) burst.now }
+        ensures fits { IfSome result (λ r. (1 ≤ length r) × (length r ≤ 64)) }
         ensures machine { any_model self.new ≡ after (any_model self.old) burst.now }
     {
         match self {

@@ -86,11 +86,13 @@ impl Segment for Rack {
         Segment::batch(&mut self.machines[at], address, amounts)
     }
 
+    // A machine that says nothing costs no copy of what was said, as most do of 254.
     fn show(&mut self, burst: &[u8]) -> Said {
         let mut said = Said::Nothing;
         for machine in self.machines.iter_mut() {
-            let next = machine.show(burst);
-            said = said.and(next);
+            if let Some(reply) = machine.answer(burst) {
+                said = said.and(Said::Reply(reply));
+            }
         }
         said
     }

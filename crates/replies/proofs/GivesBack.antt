@@ -24,9 +24,9 @@ answer_told : (m : Model) → Showing m.kind → Kept m → (s : Said) → told_
 answer_told m shows kept (get_totals true) = totals_told m shows kept true
 answer_told m shows kept (get_totals false) = totals_told m shows kept false
 answer_told m shows kept get_settings = settings_told m shows kept
-answer_told m shows kept get_type = type_told m shows kept
+answer_told m shows kept get_type = type_told m.kind m.unit
 answer_told m shows kept get_functions = functions_told m shows kept
-answer_told m shows kept get_version = version_told m shows kept
+answer_told m shows kept get_version = version_told m.kind shows
 answer_told m shows kept get_units = units_told m.settings.units
 answer_told m shows kept s = refl
 

@@ -2,14 +2,14 @@
 use Rattle.std.proofs.Common.{◌≡◌, ℕ, ◌*◌, ◌≤◌, Bool, true, false, eqb, leb, List, [], ◌∷◌, ◌++◌, length, take, Some, None, Ok, refl, ap, ◌∙◌, arith, length-append}
 use Rattle.std.proofs.lemmas.List.{take_at}
 use Rattle.std.proofs.lemmas.Bool.{and_parts, le-leb, eq-eqb, le-ltb, leb-true}
-use Rattle.kinds.specs.Kinds.{all_characters}
+use Rattle.kinds.specs.Kinds.{KindFacts, all_characters}
 use Rattle.terms.specs.Fields.{system, unit_of, units_code}
 use Rattle.terms.specs.declared.Unit.{Unit as MassUnit}
 use Rattle.terms.specs.declared.Unit.TheVariants.{Tenths, Grams}
 use Rattle.terms.specs.declared.WeightUnits.{WeightUnits}
 use Rattle.terms.specs.declared.WeightUnits.TheVariants.{Pounds, Ounces, WholeGrams, Kilograms}
 use Rattle.mlan.specs.Checksum.{sealed}
-use Rattle.mlan.specs.Commands.{Said, get_totals, get_settings, get_type, get_functions, get_version}
+use Rattle.mlan.specs.Commands.{Said, get_totals, get_settings, get_functions}
 use Rattle.mlan.specs.Numbers.{two, four, two_at, four_at}
 use Rattle.mlan.specs.Rows.{rows_bytes, rows_fault, rows_in}
 use Rattle.mlan.proofs.Numerals.{two_back, four_back}
@@ -18,7 +18,7 @@ use Rattle.writing.proofs.Behind.{two_behind, four_behind}
 use Rattle.writing.proofs.ReadBack.{sealed_sound, sealed_data}
 use Rattle.writing.specs.Answers.{answer_data}
 use Rattle.blender.specs.Machines.{Model, answer_of}
-use Rattle.replies.specs.Replies.{Telling, display_units, marked_of, totals_in, shown_facts, as_totals, as_settings, as_type, as_functions, as_version, as_units, by_code, understood}
+use Rattle.replies.specs.Replies.{Telling, system_type, version, display_units, marked_of, totals_in, shown_facts, as_totals, as_settings, as_type, as_functions, as_version, as_units, by_code, understood}
 use Rattle.replies.specs.Machines.{rows_held, held, Kept, Showing}
 use Rattle.replies.specs.declared.reply.Asked.{Asked}
 use Rattle.replies.proofs.Fields.{length_fours, totals_back}
@@ -45,6 +45,12 @@ marked_back Tenths true = refl
 marked_back Tenths false = refl
 marked_back Grams true = refl
 marked_back Grams false = refl
+
+pub version_told : (k : KindFacts) → Showing k → as_version k.version ≡ Ok (version (record { at = 2; bytes = k.version }))
+version_told k shows = let w = and_parts (eqb (length k.version) 6) (all_characters k.version) shows.version_printed in rw (w.0, w.1) refl
+
+pub type_told : (k : KindFacts) (u : MassUnit) → as_type (system u false ∷ k.software ∷ []) ≡ Ok (system_type u k.software)
+type_told k u = let software = software_back k in rw (unit_back u, software.1, software.2) refl
 
 pub units_told : (u : WeightUnits) → as_units (units_code u ∷ []) ≡ Ok (display_units u)
 units_told Pounds = refl
@@ -84,11 +90,5 @@ module _ (m : Model) (shows : Showing m.kind) (kept : Kept m) where
       let order : four_at (front ++ tail) 42 ≡ s.order = four_behind front tail 38 long 42 4 refl ∙ four_back s.order (omega (arith, kept.order_fits)) in
       rw (all, marked_back m.unit m.mark, software.1, part, clear, recipe, operator, le-leb s.operator 999 kept.operator_fits, order, le-leb s.order 999999 kept.order_fits, software.2) refl
 
-  pub type_told : as_type (bytes get_type) ≡ Ok (held m get_type)
-  type_told = let software = software_back m.kind in rw (unit_back m.unit, software.1, software.2) refl
-
   pub functions_told : as_functions (bytes get_functions) ≡ Ok (held m get_functions)
   functions_told = rw (le-leb m.settings.f130 12 kept.f130_fits, le-leb m.settings.f82 1 kept.f82_fits) refl
-
-  pub version_told : as_version (bytes get_version) ≡ Ok (held m get_version)
-  version_told = let w = and_parts (eqb (length m.kind.version) 6) (all_characters m.kind.version) shows.version_printed in rw (w.0, w.1) refl

@@ -1,7 +1,7 @@
 ghost use Rattle.std.specs.Prelude.{◌≡◌, List, [], ◌∷◌};
 ghost use Rattle.blender.specs.Machines.{Model, model};
 ghost use Rattle.segment.specs.Drops.{drop_answer, drop_batched, replies, shown};
-ghost use Rattle.segment.specs.Saying.{said_of, said_once, joined_said, reply_said};
+ghost use Rattle.segment.specs.Saying.{said_of, said_once, joined_said, reply_said, Fits};
 
 use blender::machine::Machine;
 use kinds::Kind;
@@ -9,19 +9,19 @@ use mlan::burst::Burst;
 use terms::Refusal;
 
 // What the machines of a drop said to a burst. Two replies collide, so that nobody
-// understands either.
+// understands either. A reply is whatever the caller has of it, as a length or a `Burst`.
 #[derive(Clone, Copy, Debug, PartialEq, Eq)]
-pub enum Said {
+pub enum Said<R = Burst> {
     Nothing,
-    Reply(Burst),
+    Reply(R),
     Clash,
 }
 
 // What one machine said.
-impl From<Option<Burst>> for Said {
+impl<R> From<Option<R>> for Said<R> {
     ghost from_gives = { λ reply said. said ≡ said_once reply };
 
-    fn from(reply: Option<Burst>) -> Said {
+    fn from(reply: Option<R>) -> Said<R> {
         match reply {
             None => Said::Nothing,
             Some(reply) => Said::Reply(reply),
@@ -29,9 +29,9 @@ impl From<Option<Burst>> for Said {
     }
 }
 
-impl Said {
+impl<R: Copy> Said<R> {
     // What the machines so far and the next one said.
-    pub fn and(self, next: Said) -> Said
+    pub fn and(self, next: Said<R>) -> Said<R>
         ensures { result ≡ joined_said self next }
     {
         match (self, next) {
@@ -40,7 +40,9 @@ impl Said {
             _ => Said::Clash,
         }
     }
+}
 
+impl Said {
     // The only reply, if there is one.
     pub fn reply(self) -> Option<Burst>
         ensures { result ≡ reply_said self }
@@ -65,7 +67,8 @@ pub trait Segment {
     // Shows a burst to all machines.
     fn show(&mut self, burst: &[u8]) -> Said
         ensures said { result ≡ said_of (replies burst.now (machines self.old)) }
-        ensures machines { machines self.new ≡ shown burst.now (machines self.old) };
+        ensures machines { machines self.new ≡ shown burst.now (machines self.old) }
+        ensures fits { Fits result };
 }
 
 impl<K: Kind> Segment for Machine<K> {

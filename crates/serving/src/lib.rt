@@ -64,7 +64,8 @@ pub fn over_pair<D: Segment>(machines: &mut D, burst: &[u8]) -> Option<Burst>
     ensures machines { D.Segment.machines machines.new ≡ carried_shown burst.now (D.Segment.machines machines.old) }
 {
     let mut line = Pair::new();
+    let mut buffer = [0; 64];
     line.put(Way::Down, burst);
-    let _ = exchanged(&mut line, machines);
+    let _ = serve(&mut line, machines, &mut buffer);
     taken(&mut line, Way::Up)
 }

@@ -34,16 +34,16 @@ abbrev batch_result : ℕ → List ℕ → Option Model → Result (Unit {0}) Re
 batch_result a amounts None = cond (is_address a) (Err NoMachine) (Err NoAddress)
 batch_result a amounts (Some m) = batch_answer a amounts m
 
-abbrev pub batch_event : ℕ → List ℕ → Option Model → Event
+abbrev pub batch_event : ℕ → List ℕ → Option Model → Event (List ℕ)
 batch_event a amounts s = Batch (batch_result a amounts s)
 
 -- a burst is shown to the machine; where none hangs there is no reply
-abbrev pub shown_event : List ℕ → Option Model → Event
+abbrev pub shown_event : List ℕ → Option Model → Event (List ℕ)
 shown_event bytes None = Reply None
 shown_event bytes (Some m) = Reply (reply m bytes)
 
 -- what is told of the line with number n, if anything
-abbrev pub told : ℕ → Line → Option Model → Option Event
+abbrev pub told : ℕ → Line → Option Model → Option (Event (List ℕ))
 told n nothing s = None
 told n (machine p) None = Some (Hung (hang_result p))
 told n (machine p) (Some m) = Some (NotUnderstood n)

@@ -70,7 +70,7 @@ impl Stand {
         ensures event { result ≡ batch_event address amounts.now (hung self.old) }
         ensures stand { hung self.new ≡ option_map (batched address amounts.now) (hung self.old) }
     {
-        Event::Batch(match self.machine.as_mut() {
+        Event::Batch(match &mut self.machine {
             Some(machine) => machine.batch(address, amounts),
             None => Address::new(address).and(Err(Refusal::NoMachine)),
         })
@@ -81,7 +81,7 @@ impl Stand {
         ensures stand { hung self.new ≡ option_map (λ m. after m burst.now) (hung self.old) }
     {
         // a match, since a proof knows nothing of what a closure does behind a `&mut`
-        Event::Reply(match self.machine.as_mut() {
+        Event::Reply(match &mut self.machine {
             Some(machine) => machine.answer(burst),
             None => None,
         })

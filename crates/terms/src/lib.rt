@@ -3,7 +3,7 @@
 
 ghost use Rattle.std.specs.Prelude.{◌≡◌};
 ghost use Rattle.terms.specs.Refusals.{number_of};
-ghost use Rattle.terms.specs.Fields.{system, unit_of, software_of, coded, units_code, units_of, function_code, function_of, function_limit, tag_of, tag_letters, tag_value};
+ghost use Rattle.terms.specs.Fields.{system, unit_of, software_of, software_code, coded, units_code, units_of, function_code, function_of, function_limit, tag_of, tag_letters, tag_value};
 
 pub mod address;
 pub mod word;
@@ -51,11 +51,11 @@ impl TryFrom<u8> for Unit {
     }
 }
 
-// The software types, whose codes are 4 and 12.
+// The software types, by their codes.
 #[derive(Clone, Copy, Debug, PartialEq, Eq)]
 pub enum Software {
-    Four,
-    Twelve,
+    Four = 4,
+    Twelve = 12,
 }
 
 impl TryFrom<u8> for Software {
@@ -69,6 +69,14 @@ impl TryFrom<u8> for Software {
             12 => Ok(Software::Twelve),
             _ => Err(UnknownCode(code)),
         }
+    }
+}
+
+impl From<Software> for u8 {
+    ghost from_gives = { λ software code. code ≡ software_code software };
+
+    fn from(software: Software) -> u8 {
+        software as u8
     }
 }
 

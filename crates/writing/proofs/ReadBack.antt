@@ -28,7 +28,7 @@ use Rattle.mlan.proofs.Readings.{same_said}
 use Rattle.writing.proofs.Behind.{two_behind, four_behind}
 
 -- a sealed burst is sound
-sealed_sum : (bytes : List ℕ) → sum (sealed bytes) % 256 ≡ 255
+pub sealed_sum : (bytes : List ℕ) → sum (sealed bytes) % 256 ≡ 255
 sealed_sum bytes = omega (arith, sum_by-append (λ x. x) bytes (checksum bytes ∷ []))
 
 pub sealed_sound : (bytes : List ℕ) → 2 ≤ length bytes → is_sound (sealed bytes) ≡ true
@@ -40,7 +40,7 @@ sealed_data a c bytes =
     let n : length (sealed (a ∷ c ∷ bytes)) - 3 ≡ length bytes = omega (arith, length-append bytes (checksum (a ∷ c ∷ bytes) ∷ [])) in
     ap (λ i. take i (bytes ++ (checksum (a ∷ c ∷ bytes) ∷ []))) n ∙ take_at bytes (checksum (a ∷ c ∷ bytes) ∷ []) (length bytes) refl
 
-read_sealed : (k : KindFacts) (a c : ℕ) (bytes : List ℕ) → read_as k (sealed (a ∷ c ∷ bytes)) ≡ data_as k c bytes
+pub read_sealed : (k : KindFacts) (a c : ℕ) (bytes : List ℕ) → read_as k (sealed (a ∷ c ∷ bytes)) ≡ data_as k c bytes
 read_sealed k a c bytes = rw (sealed_sound (a ∷ c ∷ bytes) (omega arith), sealed_data a c bytes) refl
 
 function_back : (f : Function) (v : ℕ) → in_range (SetFunction f v) ≡ true → as_function (request_data (SetFunction f v)) ≡ reads (set_function f v)
@@ -53,7 +53,7 @@ tag_back (WorkOrder v) e = let h = (limited 999999 v (WorkOrder v) e).0 in rw (f
 tag_back (Operator v) e = let h = (limited 999 v (Operator v) e).0 in rw (four_back v (omega arith), le-leb v 999 h) refl
 
 -- rows in range are a Twelve's
-rows_pass : (rows : List Row) → length rows ≡ 12 → rows_in_range rows ≡ true → RowsPass twelve_facts rows
+pub rows_pass : (rows : List Row) → length rows ≡ 12 → rows_in_range rows ≡ true → RowsPass twelve_facts rows
 rows_pass rows twelve e = record { twelve = twelve; types = λ p from to. (each p from to).0; settings = λ p from to. (each p from to).1 }
   where
     each : (p : ℕ) → 1 ≤ p → p ≤ 12 → ((get_or rows (p - 1) zero_row).material ≤ greatest_type twelve_facts p) × ((get_or rows (p - 1) zero_row).setting ≤ greatest_setting twelve_facts p)

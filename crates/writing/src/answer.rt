@@ -63,7 +63,8 @@ impl Answer {
     // The burst of the reply of the machine with this address. A request makes its own by the
     // same four lines; a trait of what has a code and data would be longer than both.
     pub fn burst(&self, address: u8) -> Burst
-        ensures { result ≡ answer_bytes address self.now }
+        ensures bytes { result ≡ answer_bytes address self.now }
+        ensures fits { (1 ≤ length result) × (length result ≤ 64) }
     {
         let mut draft = Draft::new();
         draft.append(&[address, self.code()]);

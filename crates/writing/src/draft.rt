@@ -5,22 +5,27 @@ ghost use Rattle.mlan.specs.Numbers.{two, four};
 ghost use Rattle.mlan.specs.Rows.{row_bytes};
 ghost use Rattle.writing.specs.Sheets.{sheet_bytes};
 
-use arrayvec::ArrayVec;
 use mlan::burst::Burst;
 use mlan::checksum::sum_of;
 use std::marker::Model;
 use terms::{Row, Sheet};
 
-// A burst that is being written, field by field. In a contract it is the list of its bytes.
+// A burst that is being written, field by field. In a contract it is the list of its bytes. It
+// is an array and a length, and no `ArrayVec`, which took a third more work for each reply.
 #[derive(Drop)]
 pub(crate) struct Draft {
-    bytes: ArrayVec<u8, 64>,
+    bytes: [u8; 64],
+    len: usize,
 }
 
 impl Model for Draft {
+    ghost use Rattle.std.specs.Prelude.{◌≡◌, ℕ, ◌≤◌, List, length, take};
+
     ghost Value = { List ℕ };
 
-    ghost view = { λ d. d.bytes.items };
+    ghost view = { λ d. take d.len d.bytes };
+
+    ghost invariant = { λ d. (d.len ≤ 64) × (length d.bytes ≡ 64) };
 }
 
 impl Draft {
@@ -28,7 +33,8 @@ impl Draft {
         ensures { result ≡ [] }
     {
         Draft {
-            bytes: ArrayVec::new(),
+            bytes: [0; 64],
+            len: 0,
         }
     }
 
@@ -36,7 +42,9 @@ impl Draft {
         requires { length self.old + length part.now ≤ 64 }
         ensures { self.new ≡ self.old ++ part.now }
     {
-        self.bytes.try_extend_from_slice(part).unwrap();
+        let end = self.len + part.len();
+        self.bytes[self.len..end].copy_from_slice(part);
+        self.len = end;
     }
 
     pub(crate) fn put<T: Field>(&mut self, field: T)
@@ -73,11 +81,12 @@ impl Draft {
     // The burst, with the checksum behind what was written.
     pub(crate) fn seal(mut self) -> Burst
         requires { length self < 64 }
-        ensures { result ≡ sealed self }
+        ensures sealed { result ≡ sealed self }
+        ensures fits { (1 ≤ length result) × (length result ≤ 64) }
     {
-        let check = 255 - sum_of(self.bytes.as_slice());
-        self.bytes.push(check);
-        Burst::new(self.bytes.as_slice()).unwrap()
+        let check = 255 - sum_of(&self.bytes[..self.len]);
+        self.append(&[check]);
+        Burst::new(&self.bytes[..self.len]).unwrap()
     }
 }
 
@@ -126,7 +135,7 @@ impl Field for Row {
     ghost sized = { λ x. refl };
 
     fn put_into(self, draft: &mut Draft) {
-        draft.append(&[self.material]);
-        draft.put(self.setting);
+        let [high, low] = self.setting.to_be_bytes();
+        draft.append(&[self.material, high, low]);
     }
 }

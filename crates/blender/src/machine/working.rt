@@ -1,4 +1,4 @@
-ghost use Rattle.std.specs.Prelude.{◌≡◌, ◌+◌, ◌-◌, ◌%◌, ◌≤◌, length, slice_index, slice_set};
+ghost use Rattle.std.specs.Prelude.{◌≡◌, ◌+◌, ◌-◌, ◌%◌, ◌≤◌, length, slice_index, slice_set, IfSome};
 ghost use Rattle.terms.specs.Addresses.{number};
 ghost use Rattle.commands.specs.Meaning.{said};
 ghost use Rattle.blender.specs.Batches.{turn_bits, filled, all_within, batch_answer, batched};
@@ -20,7 +20,7 @@ impl<K: Kind> Machine<K> {
         ensures { model K.Kind.facts result ≡ new_model K.Kind.facts (number address) unit }
     {
         Machine {
-            address,
+            address: address.value,
             unit,
             counts: Counts {
                 totals: [0; 12],
@@ -37,14 +37,14 @@ impl<K: Kind> Machine<K> {
     pub fn address(&self) -> u8
         ensures { result ≡ (model K.Kind.facts self.now).address }
     {
-        self.address.value
+        self.address
     }
 
     fn hears(&self, burst: &[u8]) -> bool
         ensures { result ≡ concerns (model K.Kind.facts self.now) burst.now }
     {
         match burst {
-            [first, ..] => *first == self.address.value || *first == 0,
+            [first, ..] => *first == self.address || *first == 0,
             [] => false,
         }
     }
@@ -111,6 +111,7 @@ impl<K: Kind> Machine<K> {
     // Judges a burst and obeys it, and answers the reply, if the burst concerns the machine.
     pub fn answer(&mut self, burst: &[u8]) -> Option<Burst>
         ensures reply { result ≡ reply (model K.Kind.facts self.old) burst.now }
+        ensures fits { IfSome result (λ r. (1 ≤ length r) × (length r ≤ 64)) }
         ensures machine { model K.Kind.facts self.new ≡ after (model K.Kind.facts self.old) burst.now }
     {
         if !self.hears(burst) {
@@ -124,7 +125,7 @@ impl<K: Kind> Machine<K> {
             }
             Err(_) => Answer::Nak,
         };
-        Some(answer.burst(self.address.value))
+        Some(answer.burst(self.address))
     }
 
     // Runs a batch on the machine with this address: an amount for each component.
@@ -133,7 +134,7 @@ impl<K: Kind> Machine<K> {
         ensures machine { model K.Kind.facts self.new ≡ batched address amounts.now (model K.Kind.facts self.old) }
     {
         Address::new(address)?;
-        if address != self.address.value {
+        if address != self.address {
             return Err(Refusal::NoMachine);
         }
         if amounts.len() != K::COMPONENTS {
@@ -150,7 +151,7 @@ impl<K: Kind> Machine<K> {
         requires { length amounts.now ≡ K.Kind.facts.components }
         ensures { model K.Kind.facts self.new ≡ filled (model K.Kind.facts self.old) amounts.now }
     {
-        let mut totals = self.counts.totals;
+        let mut totals = twelve(&self.counts.totals);
         let mut flags = self.counts.flags;
         for (i, amount) in amounts.iter().enumerate() {
             if let Some(place) = K::place(i + 1) {
@@ -162,6 +163,15 @@ impl<K: Kind> Machine<K> {
         self.counts.cycles = self.counts.cycles.wrapping_add(1);
         self.mark = true;
     }
+}
+
+// The twelve totals, as an array of their own: that one inside a struct inside a struct has twelve
+// elements, a proof does not know.
+fn twelve(totals: &[u32; 12]) -> [u32; 12]
+    ensures same { result ≡ totals.now }
+    ensures twelve { length result ≡ 12 }
+{
+    *totals
 }
 
 // Adds an amount at a place; answers the flag bits of a total that passes its end.
