@@ -53,6 +53,10 @@ impl Store for Queue {
 
     // A ninth burst is dropped.
     fn put(&mut self, burst: Burst) {
+        // the last slot is filled last, so that a full queue copies nothing
+        if self.slots[ROOM - 1].is_some() {
+            return;
+        }
         if let Some(free) = first_free(&self.slots) {
             self.slots[free] = Some(burst);
         }
