@@ -1,5 +1,5 @@
 -- A rack's machines, one after the other.
-use Rattle.std.proofs.Common.{◌≡◌, ℕ, suc, ◌+◌, ◌<◌, ◌≤◌, Bool, true, false, cond, not, eqb, List, [], ◌∷◌, ◌++◌, map, length, get_or, take, drop, set, position, Some, None, Err, Option, IfSome, sym, refl, subst, ap, ◌∙◌, add-one, arith, drop-cons, drop-set-lt}
+use Rattle.std.proofs.Common.{◌≡◌, ℕ, suc, ◌+◌, ◌<◌, ◌≤◌, Bool, true, false, cond, not, eqb, List, [], ◌∷◌, ◌++◌, map, length, get_or, take, drop, set, position, Some, None, Err, Option, sym, refl, subst, ap, ◌∙◌, add-one, arith, drop-cons, drop-set-lt}
 use Rattle.std.proofs.lemmas.List.{map-append}
 use Rattle.std.proofs.lemmas.Grind.{common_steps}
 use Rattle.std.proofs.lemmas.List.Elements.{filter_map-append}
@@ -13,7 +13,7 @@ use Rattle.segment.specs.Drops.{leftmost, machine_answer, drop_answer, leftmost_
 use Rattle.segment.specs.Saying.{said_of, said_once, Fits, joined_said}
 use Rattle.segment.specs.declared.segment.Said.{Said}
 use Rattle.segment.proofs.Joins.{none_there, batch_left, batch_right}
-use Rattle.segment.proofs.Says.{joins_said, joins_fit}
+use Rattle.segment.proofs.Says.{joins_said}
 use Rattle.rack.specs.Racks.{any_model, even_batched}
 use Rattle.rack.specs.Hanging.{has_address}
 use Rattle.rack.specs.declared.AnyMachine.{AnyMachine}
@@ -103,10 +103,6 @@ says_once : (o : Option (List ℕ)) → said_once o ≡ said_of (cons_option o [
 says_once None = refl
 says_once (Some r) = refl
 
-pub fits_once : (o : Option (List ℕ)) → IfSome o (λ r. (1 ≤ length r) × (length r ≤ 64)) → Fits (said_once o)
-fits_once None f = tt
-fits_once (Some r) f = f
-
 -- a burst: what the machines so far have said and become
 abbrev pub Shown : List ℕ → List AnyMachine → List AnyMachine → ℕ → Said (List ℕ) → Type 0
 Shown b old xs i said = (drop i xs ≡ drop i old) × (models (take i xs) ≡ shown b (models (take i old))) × (said ≡ said_of (replies b (models (take i old)))) × Fits said
@@ -121,9 +117,11 @@ module _ (b : List ℕ) (old xs : List AnyMachine) (i : ℕ) (d : AnyMachine) (w
       (cc, cc)
 
   -- a machine shown: it has become what it should, and said what it replies, if anything
-  pub show_more : (v : AnyMachine) (said : Said (List ℕ)) (o : Option (List ℕ)) → Shown b old xs i said
-      → any_model v ≡ after (any_model (get_or xs i d)) b → o ≡ reply (any_model (get_or xs i d)) b → Fits (said_once o) → Shown b old (set xs i v) (i + 1) (joined_said said (said_once o))
-  show_more v said o inv becomes says fits =
+  pub show_more : (v : AnyMachine) (said : Said (List ℕ)) → Shown b old xs i said
+      → any_model v ≡ after (any_model (get_or xs i d)) b → Fits (joined_said said (said_once (reply (any_model (get_or xs i d)) b)))
+      → Shown b old (set xs i v) (i + 1) (joined_said said (said_once (reply (any_model (get_or xs i d)) b)))
+  show_more v said inv becomes fits =
+      let o = reply (any_model (get_or xs i d)) b in
       let same = same_here inv.0 in
       let past = models (take i old) in
       let grown = one_more old i d within-old in
@@ -131,11 +129,11 @@ module _ (b : List ℕ) (old xs : List AnyMachine) (i : ℕ) (d : AnyMachine) (w
       let seen : shown b (models (take (i + 1) old)) ≡ shown b past ++ shown b (m ∷ []) = ap (shown b) grown ∙ map-append (λ n. after n b) past (m ∷ []) in
       let put : models (take (i + 1) (set xs i v)) ≡ models (take i xs) ++ any_model v ∷ [] = ap models (take_more_set xs i v within) ∙ map-append any_model (take i xs) (v ∷ []) in
       let new : any_model v ∷ [] ≡ shown b (m ∷ []) = ap (λ (n : Model). n ∷ []) becomes ∙ ap (λ (x : AnyMachine). shown b (any_model x ∷ [])) same.0 in
-      let word : said_once o ≡ said_of (replies b (m ∷ [])) = ap said_once says ∙ says_once (reply (any_model (get_or xs i d)) b) ∙ ap (λ (x : AnyMachine). said_of (replies b (any_model x ∷ []))) same.0 in (
+      let word : said_once o ≡ said_of (replies b (m ∷ [])) = says_once o ∙ ap (λ (x : AnyMachine). said_of (replies b (any_model x ∷ []))) same.0 in (
         drop-set-lt (i + 1) xs i v (omega arith) ∙ same.1,
         put ∙ ap (λ (l : List Model). l ++ any_model v ∷ []) inv.1 ∙ ap (λ (l : List Model). shown b past ++ l) new ∙ sym seen,
         ap (λ (s : Said (List ℕ)). joined_said s (said_once o)) inv.2 ∙ ap (joined_said (said_of (replies b past))) word ∙ joins_said (replies b past) (replies b (m ∷ [])) ∙ ap said_of (sym heard),
-        joins_fit said (said_once o) inv.3 fits,
+        fits,
       )
 
 -- an even batch for each machine

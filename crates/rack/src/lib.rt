@@ -4,7 +4,7 @@
 ghost use Rattle.std.specs.Prelude.{◌≡◌, ◌≤◌, [], ◌∷◌, length, IfSome};
 ghost use Rattle.terms.specs.Addresses.{number};
 ghost use Rattle.blender.specs.Batches.{batch_answer, batched};
-ghost use Rattle.blender.specs.Machines.{new_model, reply, after};
+ghost use Rattle.blender.specs.Machines.{new_model, concerns, reply, after};
 ghost use Rattle.rack.specs.Racks.{any_model, facts_of, even_answer, even_batched};
 
 pub mod rack;
@@ -35,6 +35,17 @@ impl AnyMachine {
         }
     }
 
+    // As `Machine::hears`.
+    pub fn hears(&self, burst: &[u8]) -> bool
+        ensures { result ≡ concerns (any_model self.now) burst.now }
+    {
+        match self {
+            AnyMachine::OfFour(m) => m.hears(burst),
+            AnyMachine::OfTwelve(m) => m.hears(burst),
+            AnyMachine::OfFeeder(m) => m.hears(burst),
+        }
+    }
+
     // As `Machine::answer`.
     pub fn answer(&mut self, burst: &[u8]) -> Option<Burst>
         ensures reply { result ≡ reply (any_model self.old) burst.now }
@@ -45,6 +56,17 @@ impl AnyMachine {
             AnyMachine::OfFour(m) => m.answer(burst),
             AnyMachine::OfTwelve(m) => m.answer(burst),
             AnyMachine::OfFeeder(m) => m.answer(burst),
+        }
+    }
+
+    // As `Machine::heed`.
+    pub fn heed(&mut self, burst: &[u8])
+        ensures { any_model self.new ≡ after (any_model self.old) burst.now }
+    {
+        match self {
+            AnyMachine::OfFour(m) => m.heed(burst),
+            AnyMachine::OfTwelve(m) => m.heed(burst),
+            AnyMachine::OfFeeder(m) => m.heed(burst),
         }
     }
 

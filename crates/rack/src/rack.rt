@@ -1,4 +1,6 @@
 ghost use Rattle.std.specs.Prelude.{◌≡◌, ◌<◌, [], ◌∷◌, ◌++◌, map, length, position, MatchResult, ◌==◌};
+ghost use Rattle.blender.specs.Machines.{reply, after};
+ghost use Rattle.segment.specs.Saying.{said_once, joined_said, Fits};
 ghost use Rattle.rack.specs.Racks.{any_model, even_batched};
 ghost use Rattle.rack.specs.Hanging.{racked, has_address, Unhung};
 ghost use Rattle.rack.specs.declared.rack.RackFault.TheVariants.{Memory};
@@ -77,6 +79,25 @@ fn place_of(machines: &[AnyMachine], address: u8) -> Option<usize>
         .position(|machine| machine.address() == address)
 }
 
+// Shows a burst to the next machine, and adds what it says to what was said. Of 254 machines most
+// hear nothing, and one that does not is not asked, so that no reply is made room for.
+fn show_next(machine: &mut AnyMachine, burst: &[u8], said: &mut Said)
+    ensures machine { any_model machine.new ≡ after (any_model machine.old) burst.now }
+    ensures said { said.new ≡ joined_said said.old (said_once (reply (any_model machine.old) burst.now)) }
+    ensures fits { Fits said.old → Fits said.new }
+{
+    if !machine.hears(burst) {
+        return;
+    }
+    if let Said::Nothing = said {
+        *said = machine.answer(burst).into();
+    } else {
+        // its reply collides, whatever it is
+        machine.heed(burst);
+        *said = Said::Clash;
+    }
+}
+
 impl Segment for Rack {
     ghost machines = { racked };
 
@@ -86,13 +107,10 @@ impl Segment for Rack {
         Segment::batch(&mut self.machines[at], address, amounts)
     }
 
-    // A machine that says nothing costs no copy of what was said, as most do of 254.
     fn show(&mut self, burst: &[u8]) -> Said {
         let mut said = Said::Nothing;
         for machine in self.machines.iter_mut() {
-            if let Some(reply) = machine.answer(burst) {
-                said = said.and(Said::Reply(reply));
-            }
+            show_next(machine, burst, &mut said);
         }
         said
     }

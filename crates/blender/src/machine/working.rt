@@ -40,7 +40,8 @@ impl<K: Kind> Machine<K> {
         self.address
     }
 
-    fn hears(&self, burst: &[u8]) -> bool
+    // Whether a burst concerns the machine: it begins with its address, or with 0.
+    pub fn hears(&self, burst: &[u8]) -> bool
         ensures { result ≡ concerns (model K.Kind.facts self.now) burst.now }
     {
         match burst {
@@ -126,6 +127,18 @@ impl<K: Kind> Machine<K> {
             Err(_) => Answer::Nak,
         };
         Some(answer.burst(self.address))
+    }
+
+    // Judges a burst and obeys it, as `answer` does, where nobody will hear the reply.
+    pub fn heed(&mut self, burst: &[u8])
+        ensures { model K.Kind.facts self.new ≡ after (model K.Kind.facts self.old) burst.now }
+    {
+        if !self.hears(burst) {
+            return;
+        }
+        if let Ok(command) = Command::read::<K>(burst) {
+            self.obey(command);
+        }
     }
 
     // Runs a batch on the machine with this address: an amount for each component.
