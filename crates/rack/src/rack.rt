@@ -80,7 +80,7 @@ fn place_of(machines: &[AnyMachine], address: u8) -> Option<usize>
 }
 
 // Shows a burst to the next machine, and adds what it says to what was said. Of 254 machines most
-// hear nothing, and one that does not is not asked, so that no reply is made room for.
+// hear nothing: such a one is not asked for a reply, which would have to be copied.
 fn show_next(machine: &mut AnyMachine, burst: &[u8], said: &mut Said)
     ensures machine { any_model machine.new ≡ after (any_model machine.old) burst.now }
     ensures said { said.new ≡ joined_said said.old (said_once (reply (any_model machine.old) burst.now)) }
