@@ -1,6 +1,7 @@
 -- A machine: what it is, what it replies to a burst, and what it is afterwards.
 use Rattle.std.specs.Prelude.{ℕ, Bool, false, cond, ◌||◌, List, [], ◌∷◌, replicate, Some, None, Option, ◌==◌}
 use Rattle.kinds.specs.Kinds.{KindFacts}
+use Rattle.terms.specs.Addresses.{number}
 use Rattle.terms.specs.declared.Function.{Function}
 use Rattle.terms.specs.declared.Function.TheVariants.{F82, F130}
 use Rattle.terms.specs.declared.Row.{Row}
@@ -33,11 +34,11 @@ abbrev pub model : {K : Type 0} → KindFacts → Machine K → Model
 model k m =
     record {
       kind = k;
-      address = m.address;
+      address = number m.address;
       unit = m.unit;
-      totals = m.counts.totals;
-      cycles = m.counts.cycles;
-      flags = m.counts.flags;
+      totals = m.tally.counts.totals;
+      cycles = m.tally.counts.cycles;
+      flags = m.tally.counts.flags;
       mark = m.mark;
       settings = m.settings;
     }

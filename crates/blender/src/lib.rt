@@ -2,4 +2,6 @@
 #![tactic(auto)]
 
 pub mod machine;
+mod modelled;
 pub mod settings;
+mod tally;

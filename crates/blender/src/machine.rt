@@ -1,15 +1,17 @@
+use super::modelled::Modelled;
 use super::settings::Settings;
+use super::tally::Tally;
 use kinds::Kind;
-use terms::{Counts, Unit};
+use terms::Unit;
+use terms::address::Address;
 
-// A machine of a kind, at an address. It has no ghost field, and none in its fields, since a
-// caller could not match such a machine through `&mut` inside an enum.
+// A machine of a kind, at an address. It has no ghost field itself: `Modelled` says why. That its
+// address is 1 to 254 and its totals are twelve, a caller knows from the types of its fields.
 #[derive(Drop)]
 pub struct Machine<K: Kind> {
-    // the number of an `Address`
-    address: u8,
+    address: Modelled<Address>,
     unit: Unit,
-    counts: Counts,
+    tally: Modelled<Tally>,
     // the change mark: up since a batch, until code 16 has read the totals
     mark: bool,
     settings: Settings,

@@ -12,7 +12,7 @@ mod tests {
     use kinds::{Feeder, Four, Kind, Twelve};
     use mlan::burst::Burst;
     use segment::joined::Joined;
-    use segment::segment::Segment;
+    use segment::segment::{Said, Segment};
     use serving::serve;
     use std::process::Abort;
     use std::test::Fail;
@@ -111,6 +111,20 @@ mod tests {
             &[5, 85, 165],
             &[5, 85, 4, 161],
         )
+    }
+
+    // What two joined machines say to a burst: a reply, nothing, or a clash.
+    #[test]
+    fn said_by_two_joined(rt: HostRuntime) -> Result<(), Fail> {
+        let left = machine(5, Unit::Tenths, Twelve)?;
+        let right = machine(6, Unit::Tenths, Feeder)?;
+        let mut drop = Joined::new(left, right);
+        let reply = Said::from(Burst::new(&[5, 49, 2, 12, 187]));
+        assert_eq!(rt; drop.show(&[5, 49, 201]), reply);
+        assert_eq!(rt; drop.show_fit(&[5, 49, 201]), reply);
+        assert_eq!(rt; drop.show_fit(&[4, 49, 202]), Said::Nothing);
+        assert_eq!(rt; drop.show_fit(&[0, 49, 206]), Said::Clash);
+        Ok(())
     }
 
     // The length of the reply to a question for the settings, and its byte with the mark.

@@ -1,10 +1,15 @@
-// Totals and cycle counts that pass their ends, which takes thousands of batches.
+// Totals and cycle counts that pass their ends, which takes thousands of batches; and what a caller
+// in another crate has of a machine.
 #![tactic(auto)]
+
+pub mod callers;
 
 #[cfg(test)]
 mod tests {
+    use super::callers::{asked, known};
     use blender::machine::Machine;
     use kinds::{Feeder, Kind, Twelve};
+    use rack::AnyMachine;
     use std::process::Abort;
     use std::test::Fail;
     use terms::Unit;
@@ -150,6 +155,19 @@ mod tests {
             [0, 0, 0, 0],
             219,
         );
+        Ok(())
+    }
+
+    // A machine in an option is asked for its type, and no machine is.
+    #[test]
+    fn asked_in_an_option(rt: HostRuntime) -> Result<(), Fail> {
+        let machine = machine(Unit::Tenths, Twelve)?;
+        known(&machine);
+        let mut hung = Some(AnyMachine::OfTwelve(machine));
+        let reply = asked(&mut hung, &[5, 49, 201]).expect(&rt, "a reply");
+        assert_eq!(rt; reply.as_slice(), [5, 49, 2, 12, 187].as_slice());
+        hung = None;
+        assert!(rt; asked(&mut hung, &[5, 49, 201]).is_none());
         Ok(())
     }
 }

@@ -1,5 +1,5 @@
 -- A rack's machines, one after the other.
-use Rattle.std.proofs.Common.{◌≡◌, ℕ, suc, ◌+◌, ◌<◌, ◌≤◌, Bool, true, false, cond, not, eqb, List, [], ◌∷◌, ◌++◌, map, length, get_or, take, drop, set, position, Some, None, Err, Option, sym, refl, subst, ap, ◌∙◌, add-one, arith, drop-cons, drop-set-lt}
+use Rattle.std.proofs.Common.{◌≡◌, ℕ, suc, ◌+◌, ◌<◌, ◌≤◌, Bool, true, false, cond, not, eqb, List, [], ◌∷◌, ◌++◌, map, length, get_or, take, drop, set, replicate, position, Some, None, Err, Option, sym, refl, subst, ap, ◌∙◌, add-one, arith, drop-cons, drop-set-lt}
 use Rattle.std.proofs.lemmas.List.{map-append}
 use Rattle.std.proofs.lemmas.Grind.{common_steps}
 use Rattle.std.proofs.lemmas.List.Elements.{filter_map-append}
@@ -21,13 +21,13 @@ use Rattle.rack.specs.declared.AnyMachine.TheVariants.{OfFour}
 use Rattle.terms.specs.declared.Unit.TheVariants.{Tenths}
 use Rattle.terms.specs.declared.WeightUnits.TheVariants.{Pounds}
 
--- what stands for a machine past the end of a list
+-- what may stand for a machine past the end of a list
 abbrev pub blank : AnyMachine
 blank =
     OfFour (record {
-      address = 0;
+      address = record { value = 1; from_one = omega arith; to_254 = omega arith };
       unit = Tenths;
-      counts = record { totals = []; cycles = 0; flags = 0 };
+      tally = record { counts = record { totals = replicate 12 0; cycles = 0; flags = 0 }; twelve = refl };
       mark = false;
       settings = record { sheet = record { rows = []; recipe = 0; operator = 0; order = 0 }; f82 = 0; f130 = 0; units = Pounds; keypad = false };
       kind = record {};
@@ -105,7 +105,11 @@ says_once (Some r) = refl
 
 -- a burst: what the machines so far have said and become
 abbrev pub Shown : List ℕ → List AnyMachine → List AnyMachine → ℕ → Said (List ℕ) → Type 0
-Shown b old xs i said = (drop i xs ≡ drop i old) × (models (take i xs) ≡ shown b (models (take i old))) × (said ≡ said_of (replies b (models (take i old)))) × Fits said
+Shown b old xs i said = (drop i xs ≡ drop i old) × (models (take i xs) ≡ shown b (models (take i old))) × (said ≡ said_of (replies b (models (take i old))))
+
+-- the same, and that what they have said is a burst, if it is a reply
+abbrev pub ShownFit : List ℕ → List AnyMachine → List AnyMachine → ℕ → Said (List ℕ) → Type 0
+ShownFit b old xs i said = (drop i xs ≡ drop i old) × (models (take i xs) ≡ shown b (models (take i old))) × (said ≡ said_of (replies b (models (take i old)))) × Fits said
 
 module _ (b : List ℕ) (old xs : List AnyMachine) (i : ℕ) (d : AnyMachine) (within : i < length xs) (within-old : i < length old) where
   abbrev m : Model
@@ -116,25 +120,30 @@ module _ (b : List ℕ) (old xs : List AnyMachine) (i : ℕ) (d : AnyMachine) (w
       let p : get_or xs i d ∷ drop (i + 1) xs ≡ get_or old i d ∷ drop (i + 1) old = sym (rw (add-one, drop-cons xs i d)) ∙ e ∙ rw (add-one, drop-cons old i d) in
       (cc, cc)
 
-  -- a machine shown: it has become what it should, and said what it replies, if anything
-  pub show_more : (v : AnyMachine) (said : Said (List ℕ)) → Shown b old xs i said
-      → any_model v ≡ after (any_model (get_or xs i d)) b → Fits (joined_said said (said_once (reply (any_model (get_or xs i d)) b)))
-      → Shown b old (set xs i v) (i + 1) (joined_said said (said_once (reply (any_model (get_or xs i d)) b)))
-  show_more v said inv becomes fits =
-      let o = reply (any_model (get_or xs i d)) b in
+  pub show_more : (v : AnyMachine) (said next joined : Said (List ℕ)) → Shown b old xs i said
+      → any_model v ∷ [] ≡ shown b (any_model (get_or xs i d) ∷ []) → next ≡ said_of (replies b (any_model (get_or xs i d) ∷ [])) → joined ≡ joined_said said next → Shown b old (set xs i v) (i + 1) joined
+  show_more v said next joined inv becomes says is-joined =
       let same = same_here inv.0 in
       let past = models (take i old) in
       let grown = one_more old i d within-old in
       let heard : replies b (models (take (i + 1) old)) ≡ replies b past ++ replies b (m ∷ []) = ap (replies b) grown ∙ filter_map-append (λ n. reply n b) past (m ∷ []) in
       let seen : shown b (models (take (i + 1) old)) ≡ shown b past ++ shown b (m ∷ []) = ap (shown b) grown ∙ map-append (λ n. after n b) past (m ∷ []) in
       let put : models (take (i + 1) (set xs i v)) ≡ models (take i xs) ++ any_model v ∷ [] = ap models (take_more_set xs i v within) ∙ map-append any_model (take i xs) (v ∷ []) in
-      let new : any_model v ∷ [] ≡ shown b (m ∷ []) = ap (λ (n : Model). n ∷ []) becomes ∙ ap (λ (x : AnyMachine). shown b (any_model x ∷ [])) same.0 in
-      let word : said_once o ≡ said_of (replies b (m ∷ [])) = says_once o ∙ ap (λ (x : AnyMachine). said_of (replies b (any_model x ∷ []))) same.0 in (
+      let new : any_model v ∷ [] ≡ shown b (m ∷ []) = becomes ∙ ap (λ (x : AnyMachine). shown b (any_model x ∷ [])) same.0 in
+      let word : next ≡ said_of (replies b (m ∷ [])) = says ∙ ap (λ (x : AnyMachine). said_of (replies b (any_model x ∷ []))) same.0 in (
         drop-set-lt (i + 1) xs i v (omega arith) ∙ same.1,
         put ∙ ap (λ (l : List Model). l ++ any_model v ∷ []) inv.1 ∙ ap (λ (l : List Model). shown b past ++ l) new ∙ sym seen,
-        ap (λ (s : Said (List ℕ)). joined_said s (said_once o)) inv.2 ∙ ap (joined_said (said_of (replies b past))) word ∙ joins_said (replies b past) (replies b (m ∷ [])) ∙ ap said_of (sym heard),
-        fits,
+        is-joined ∙ ap (λ (s : Said (List ℕ)). joined_said s next) inv.2 ∙ ap (joined_said (said_of (replies b past))) word ∙ joins_said (replies b past) (replies b (m ∷ [])) ∙ ap said_of (sym heard),
       )
+
+  -- a machine shown: it has become what it should, and said what it replies, if anything
+  pub show_fit : (v : AnyMachine) (said : Said (List ℕ)) → ShownFit b old xs i said
+      → any_model v ≡ after (any_model (get_or xs i d)) b → Fits (joined_said said (said_once (reply (any_model (get_or xs i d)) b)))
+      → ShownFit b old (set xs i v) (i + 1) (joined_said said (said_once (reply (any_model (get_or xs i d)) b)))
+  show_fit v said inv becomes fits =
+      let o = reply (any_model (get_or xs i d)) b in
+      let more = show_more v said (said_once o) (joined_said said (said_once o)) (inv.0, inv.1, inv.2) (ap (λ (n : Model). n ∷ []) becomes) (says_once o) refl in
+      (more.0, more.1, more.2, fits)
 
 -- an even batch for each machine
 abbrev pub Evened : ℕ → List AnyMachine → List AnyMachine → ℕ → Type 0

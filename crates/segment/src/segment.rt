@@ -67,8 +67,17 @@ pub trait Segment {
     // Shows a burst to all machines.
     fn show(&mut self, burst: &[u8]) -> Said
         ensures said { result ≡ said_of (replies burst.now (machines self.old)) }
+        ensures machines { machines self.new ≡ shown burst.now (machines self.old) };
+
+    // The same, and that a reply has 1 to 64 bytes, which the type of what is said implies: who
+    // implements a drop has it for nothing.
+    fn show_fit(&mut self, burst: &[u8]) -> Said
+        ensures said { result ≡ said_of (replies burst.now (machines self.old)) }
         ensures machines { machines self.new ≡ shown burst.now (machines self.old) }
-        ensures fits { Fits result };
+        ensures fits { Fits result }
+    {
+        self.show(burst)
+    }
 }
 
 impl<K: Kind> Segment for Machine<K> {

@@ -4,7 +4,9 @@ ghost use Rattle.commands.specs.Meaning.{said};
 ghost use Rattle.blender.specs.Batches.{turn_bits, filled, all_within, batch_answer, batched};
 ghost use Rattle.blender.specs.Machines.{model, new_model, answer_of, obeyed, concerns, reply, after};
 
+use super::super::modelled::Modelled;
 use super::super::settings::Settings;
+use super::super::tally::Tally;
 use super::Machine;
 use commands::command::Command;
 use kinds::Kind;
@@ -19,14 +21,15 @@ impl<K: Kind> Machine<K> {
     pub fn new(address: Address, unit: Unit, kind: K) -> Machine<K>
         ensures { model K.Kind.facts result ≡ new_model K.Kind.facts (number address) unit }
     {
+        let counts = Counts {
+            totals: [0; 12],
+            cycles: 0,
+            flags: 0,
+        };
         Machine {
-            address: address.value,
+            address: Modelled::new(address),
             unit,
-            counts: Counts {
-                totals: [0; 12],
-                cycles: 0,
-                flags: 0,
-            },
+            tally: Modelled::new(Tally { counts }),
             mark: false,
             settings: Settings::new(),
             kind,
@@ -37,7 +40,7 @@ impl<K: Kind> Machine<K> {
     pub fn address(&self) -> u8
         ensures { result ≡ (model K.Kind.facts self.now).address }
     {
-        self.address
+        self.address.get().value
     }
 
     // Whether a burst concerns the machine: it begins with its address, or with 0.
@@ -45,7 +48,7 @@ impl<K: Kind> Machine<K> {
         ensures { result ≡ concerns (model K.Kind.facts self.now) burst.now }
     {
         match burst {
-            [first, ..] => *first == self.address || *first == 0,
+            [first, ..] => *first == self.address() || *first == 0,
             [] => false,
         }
     }
@@ -60,7 +63,7 @@ impl<K: Kind> Machine<K> {
                 reset,
                 unit,
                 software,
-                counts: self.counts,
+                counts: self.tally.get().counts,
             },
             Command::GetSettings => Answer::Settings {
                 unit,
@@ -88,7 +91,9 @@ impl<K: Kind> Machine<K> {
     {
         match command {
             Command::GetTotals { reset: true } => {
-                self.counts.flags = 0;
+                let mut counts = self.tally.get().counts;
+                counts.flags = 0;
+                self.tally = Modelled::new(Tally { counts });
                 self.mark = false;
             }
             Command::SetSettings(sheet) => {
@@ -126,7 +131,7 @@ impl<K: Kind> Machine<K> {
             }
             Err(_) => Answer::Nak,
         };
-        Some(answer.burst(self.address))
+        Some(answer.burst(self.address()))
     }
 
     // Judges a burst and obeys it, as `answer` does, where nobody will hear the reply.
@@ -147,7 +152,7 @@ impl<K: Kind> Machine<K> {
         ensures machine { model K.Kind.facts self.new ≡ batched address amounts.now (model K.Kind.facts self.old) }
     {
         Address::new(address)?;
-        if address != self.address {
+        if address != self.address() {
             return Err(Refusal::NoMachine);
         }
         if amounts.len() != K::COMPONENTS {
@@ -164,27 +169,20 @@ impl<K: Kind> Machine<K> {
         requires { length amounts.now ≡ K.Kind.facts.components }
         ensures { model K.Kind.facts self.new ≡ filled (model K.Kind.facts self.old) amounts.now }
     {
-        let mut totals = twelve(&self.counts.totals);
-        let mut flags = self.counts.flags;
+        let mut counts = self.tally.get().counts;
+        let mut totals = counts.totals;
+        let mut flags = counts.flags;
         for (i, amount) in amounts.iter().enumerate() {
             if let Some(place) = K::place(i + 1) {
                 flags |= add_at(&mut totals, place, *amount);
             }
         }
-        self.counts.totals = totals;
-        self.counts.flags = flags;
-        self.counts.cycles = self.counts.cycles.wrapping_add(1);
+        counts.totals = totals;
+        counts.flags = flags;
+        counts.cycles = counts.cycles.wrapping_add(1);
+        self.tally = Modelled::new(Tally { counts });
         self.mark = true;
     }
-}
-
-// The twelve totals, as an array of their own: that one inside a struct inside a struct has twelve
-// elements, a proof does not know.
-fn twelve(totals: &[u32; 12]) -> [u32; 12]
-    ensures same { result ≡ totals.now }
-    ensures twelve { length result ≡ 12 }
-{
-    *totals
 }
 
 // Adds an amount at a place; answers the flag bits of a total that passes its end.

@@ -2,7 +2,7 @@ use Rattle.std.proofs.Common.{◌≡◌, ◌<◌, ◌≤◌, List, map, length, 
 use Rattle.std.proofs.lemmas.List.{take_at, take_all}
 use Rattle.rack.specs.Racks.{even_batched}
 use Rattle.rack.specs.declared.AnyMachine.{AnyMachine}
-use Rattle.rack.proofs.Racking.{blank, models, even_more}
+use Rattle.rack.proofs.Racking.{models, even_more}
 use Rattle.rack.proofs.rack.Rack.batch_evenly.Goals as goal
 
 pub loop-machine-preserved : goal.loop-machine-preserved
@@ -10,7 +10,7 @@ loop-machine-preserved c =
     let i = c.loop-machine.machine-index in
     let xs = c.loop-machine.machine-items in
     let within : i < length xs = omega arith in
-    even_more c.args.amount _ xs i blank _ within c.loop-machine-test.true c.batch_evenly.ensures.machine c.loop-machine.invariant
+    even_more c.args.amount _ xs i c.machine-item.result _ within c.loop-machine-test.true c.batch_evenly.ensures.machine c.loop-machine.invariant
 
 pub returns : goal.returns
 returns c =

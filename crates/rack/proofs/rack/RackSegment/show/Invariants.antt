@@ -1,5 +1,5 @@
-use Rattle.rack.proofs.Racking.{Shown}
+use Rattle.rack.proofs.Racking.{ShownFit}
 use Rattle.rack.proofs.rack.RackSegment.show.Given as goal
 
 abbrev pub invariant-loop-machine : goal.invariant-loop-machine
-invariant-loop-machine l = Shown l.burst l.initial.machine-items l.machine-items l.machine-index l.said
+invariant-loop-machine l = ShownFit l.burst l.initial.machine-items l.machine-items l.machine-index l.said

@@ -1,6 +1,4 @@
-use Rattle.std.proofs.Common.{sym, subst}
-use Rattle.segment.specs.Saying.{Fits}
-use Rattle.segment.proofs.Says.{both_said, both_shown, joins_fit}
+use Rattle.segment.proofs.Says.{both_said, both_shown}
 use Rattle.segment.proofs.joined.JoinedSegment.show.Goals as goal
 
 pub returns : goal.returns
@@ -10,8 +8,4 @@ returns g c =
     let ys = g.B.Segment.machines c.args.self.now.right in
     let l = c.show-left.ensures in
     let r = c.show-right.ensures in
-    record {
-      said = both_said b xs ys l.said r.said c.and.ensures;
-      machines = both_shown b xs ys l.machines r.machines;
-      fits = subst Fits (sym c.and.ensures) (joins_fit _ _ l.fits r.fits);
-    }
+    record { said = both_said b xs ys l.said r.said c.and.ensures; machines = both_shown b xs ys l.machines r.machines }
